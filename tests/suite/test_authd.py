@@ -463,10 +463,10 @@ class BehindNginx(OfDaemon):
         listener = socket.create_server((host, int(port)))
 
         def serve() -> None:
-            with contextlib.suppress(OSError):
+            with contextlib.suppress(OSError):  # (the listener is shut down at the end)
                 while True:
                     client = listener.accept()[0]
-                    with contextlib.suppress(OSError), context.wrap_socket(client, server_side=True) as connection:
+                    with contextlib.suppress(OSError), context.wrap_socket(client, server_side=True) as connection:  # (nginx breaks it off)
                         received.append(connection.recv(65536))
                         connection.sendall(b"HTTP/1.1 200 OK\r\nContent-Length: 0\r\n\r\n")
 

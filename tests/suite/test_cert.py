@@ -401,7 +401,8 @@ class OfCertificates(CommandTest):
         self.assertEqual(len(value_in(octets_in(self.at("acl.tsexp"))).value), 3)
 
     def test_entries_are_removed(self):
-        """`entry --remove` removes all entries for a subject, named by its key or a hash, and no others. If there are none, the status is 1."""
+        """`entry --remove` removes all entries for a subject, named by its key or any hash of it, and no others. The status is 1 if there are
+        none."""
         for words in (("alice.pub",), ("bob.pub",), ("bob.pub", "--named", "team"), ("bob.pub",), ("alice.pub",)):
             self.cert("entry", "--to", *words, "--tag", TAG, "--yes", "--acl", "acl.sexp")
         output = self.cert("entry", "--remove", "--to", self.cert("key", "--hash", "bob.pub"), "--acl", "acl.sexp")
@@ -660,7 +661,7 @@ class OfAnswers(CommandTest):
         self.assertEqual(written, [*(answer.strip("\n") for _, _, answer in steps), ""])
 
     def test_the_story_of_three_teams(self):
-        """examples/builds/story.sh has at most 40 lines, its questions get the answers that are wanted, and its certificates verify."""
+        """examples/builds/story.sh has at most 40 lines, its questions get the expected answers, and its certificates verify."""
         folder = self.at("story")
         os.mkdir(folder)
         path = os.path.join(TOP, "examples", "builds", "story.sh")

@@ -147,7 +147,7 @@ class Ends(TestOfEnding):
 
     def test_which_certificate_is_ended(self) -> None:
         """What is ended is the last certificate of a file, with `--place` the one at a place, a certificate that is no sequence, or a digest, which
-        gets a remark. Comments in certificates change nothing."""
+        gets a remark. `first` has one certificate, `cert` is this one alone, and `second` has a second one. Their comments change nothing."""
         first, second = self.digests
         for words, wanted in ((["second"], [second]), (["first"], [first]), (["cert"], [first]), (["second", "--place", "1"], [first]),
                               (["second", "--place", "2"], [second]), (["first", "second"], [first, second]), (["--digest", B], [B]),
@@ -412,7 +412,7 @@ class OfLibrary(TestOfEnding):
     """The digests are those of what the library lists to be verified, which the daemon looks up."""
 
     def test_digests_of_the_messages_of_the_library(self) -> None:
-        # (it prints the SHA-256 of each message that the library lists for a sequence, in the file of its first argument)
+        """`program` prints the SHA-256 of each message that the library lists for the sequence in the file of its first argument."""
         program = ("import hashlib, sys, spki; guard = spki.Guard(b'(acl)');"
                    "key = spki.ProvenKey.assume(spki.canonical(open(sys.argv[2], 'rb').read()));"
                    "asked = guard.ask(spki.Question(open(sys.argv[1], 'rb').read(), key, words=(b'files',), moment=b'\"2026-03-01_12:00:00\"'));"

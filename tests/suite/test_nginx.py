@@ -301,7 +301,7 @@ class Limits(OfSite):
         self.check_ann()
 
     def test_rate_of_certificates(self) -> None:
-        """A client that shows certificates has a lower rate. Past it the daemon is not asked."""
+        """A client that shows certificates, here Ben one of Ann, has a lower rate. Past it the daemon is not asked."""
         field = f"Authorization: SPKI {in_braces(sequence(self.site, 'ann', 'ben', READ))}"
         request, count = f"GET /web/index.html HTTP/1.1\r\nHost: localhost\r\n{field}\r\n", 80  # (a burst of 20, and 5 a second, pass)
         requests = f"{request}\r\n".encode() * (count - 1) + f"{request}Connection: close\r\n\r\n".encode()

@@ -2,10 +2,9 @@
 whichever of library and program decides. A mistake must be found at its place. Questions from another origin, with another host or without the token,
 and too long bodies are refused. Text stays text in every box. A hostile text is stopped, and the page goes on. In Chromium also: typing, the keyboard
 alone, a link, 360 pixels, and that nothing of an answer stays when it is not the answer to what is typed. The page starts where `tests/run --quick`
-has left the program, and says this command where nothing is built. `bench/playground.py` measures its times by `InChromium`.
-
-An answer is an object of JSON: `line` is what the program's command `check` says, `reasons` are the lines of `explain`, and `faults` the mistakes by
-the box they are in, each with its `places` in the text. STORY is the question of the first example, which is granted: Carol requests a right."""
+has left the program, and says this command where nothing is built. `bench/playground.py` measures its times by `InChromium`. An answer is an object
+of JSON: `line` is what the program's command `check` says, `reasons` are the lines of `explain`, and `faults` the mistakes by the box they are in,
+each with its `places` in the text. STORY is the question of the first example, which is granted: Carol requests a right."""
 import contextlib
 import http.client
 import io
@@ -719,6 +718,7 @@ class InChromium(OfPage):
         self.check_nothing_left()
 
     def test_an_answer_that_was_stopped(self) -> None:
+        """Of an answer without a decision the page shows the notice, and nothing of the earlier answer, a refusal."""
         self.paste("acl", STORY["acl"].replace("(propagate)", "(propagated)"))
         self.until("return document.getElementById('kind').textContent === 'Refused'")
         self.replace_answers("question", "Promise.resolve(new Response('{\"labelFaults\": [], \"notice\": \"It took too long.\"}'))")
@@ -749,6 +749,7 @@ class InChromium(OfPage):
         self.until("return document.getElementById('kind').textContent === 'Yes' && !document.querySelector('main > :not(.wide) .old, .verdict.old')")
 
     def test_a_server_that_has_ended(self) -> None:
+        """Each tab says that the server does not answer, and shows nothing of an earlier answer."""
         page = Page(self.engine, self.seconds)
         self.addCleanup(page.end)
         self.browser.get(page.address.geturl())

@@ -2,8 +2,8 @@
 questions are asked, 20,000 in a long run. Only a long run asks daemons at replicas, while the primary is killed and a replica lags. A store has
 tables: `entries`, the `ended` certificates, `changes` (the log), `imports`, a `heartbeat`, and `chains`, the certificates that clients leave.
 `Store.rows(STATEMENT, VALUE ..)` runs a statement in which `{entries}` is that table, and returns its rows. `self.spki_store(STATUS, WORD ..)` runs
-the command, which must end with this status: 0 is done, 1 something wrong or missing, 2 a refusal, 3 a fault of the database or a file. A
-daemon answers a request with 200 to grant it, 401 or 403 to deny it, and 503 if the state of its store is stale."""
+the command, which must end with this status: 0 is done, 1 something wrong or missing, 2 a refusal, 3 a fault of the database or a file. A daemon
+answers a request with 200 to grant it, 401 or 403 to deny it, and 503 if the state of its store is stale."""
 import argparse
 import contextlib
 import hashlib
@@ -553,7 +553,7 @@ def children_of(process: int) -> list[int]:
 
 
 class Asker(threading.Thread):
-    """Asks daemons for a person again and again, whatever fails. `granted` has the begin and the end of each granted request, by `time.monotonic`."""
+    """Asks daemons for a person again and again, whatever fails. `granted` has when each granted request began and ended, by `time.monotonic`."""
 
     def __init__(self, daemons: list[StoreDaemon], who: Person) -> None:
         super().__init__()
@@ -564,7 +564,7 @@ class Asker(threading.Thread):
         while not self.ends.is_set():
             for each in self.daemons:
                 begun = time.monotonic()
-                with contextlib.suppress(OSError, http.client.HTTPException):
+                with contextlib.suppress(OSError, http.client.HTTPException):  # (the tests kill daemons and servers)
                     if each.status(self.who) == 200:
                         self.granted.append((begun, time.monotonic()))
 
@@ -599,7 +599,7 @@ class Heartbeat(OfStore):
             self.assertEqual(self.last_beat(self.server), last)
             with psycopg.connect(self.server.address) as connection:
                 (waiting,), = connection.execute("SELECT count(*) FROM pg_stat_activity WHERE application_name = 'spki-store'").fetchall()
-            self.assertLessEqual(waiting, 4, "the beats that are left do not wait for ever")
+            self.assertLessEqual(waiting, 4, "the beats that are left do not wait for ever")  # (two beats, and connections that begin or end)
             replica.promote()
             promoted = time.monotonic()
             waits_for("the new primary has a beat", lambda: self.last_beat(replica) > last)
