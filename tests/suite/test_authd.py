@@ -515,8 +515,8 @@ class Units(unittest.TestCase):
         self.assertEqual(status, 0, output[-300:])
 
     def test_lines_that_the_units_must_have(self) -> None:
-        """The units have the lines that prevent faults. Without some of them somebody had to start the service by hand after some failed starts, a
-        reload could not fail, and the runtime folder was removed with the socket in it."""
+        """The units have the lines that prevent faults. Without some of them somebody would have to start the service by hand after failed starts, a
+        reload could not fail, and the runtime folder would be removed with the socket in it."""
         service, unit = (text_of(path).splitlines() for path in UNITS)
         for line in ("StartLimitIntervalSec=0", "Type=notify", "ExecReload=/usr/local/bin/spki-authd -reload -config /etc/spki-authd/config.json",
                      "RuntimeDirectoryPreserve=yes", "LogRateLimitIntervalSec=30s", "LogRateLimitBurst=30000", "Requires=spki-authd.socket"):

@@ -46,8 +46,7 @@ Reason = collections.namedtuple("Reason", "entry item word")
 FEW_FILES, FILES = 100, 1000
 # How many times as much processor time FILES files may take as FEW_FILES, with some noise; and how many modules a start may load.
 MOST_TIMES, MOST_MODULES = 20, 100
-# After how many seconds a program that hangs is ended.
-SECONDS = 1800
+SECONDS = 1800  # (after which a program that hangs is ended)
 MANUAL = text_of("docs/spki-cert.1")
 needs_ssh = needs.needs("ssh-keygen")
 
@@ -432,8 +431,8 @@ class OfCertificates(CommandTest):
         self.assertIn("acl.sexp: refused", self.cert(*to_bob, "--tag", TAG, *into_list, wanted=2))
 
     def test_no_file_is_half_written(self):
-        """A file that is there stays as it is if `spki-cert` fails, because it cannot write, or because it asks for --yes: the
-        certificate has no end. No temporary file is left."""
+        """A file that is there stays as it is if `spki-cert` fails, because it cannot write, or because it asks for --yes: the certificate has no
+        end. No temporary file is left."""
         self.write("c.sexp", "before")
         os.mkdir(self.at("folder"))
         self.assertIn("nothing was written", self.sign("--days", "1", "-o", "folder", wanted=2))
@@ -549,7 +548,7 @@ class OfTags(CommandTest):
             tag = made_tags.tag_for(request, rng)
             try:
                 wanted = model_tags.contains(model_tags.read(tag), request)
-            except model_tags.TagFault:
+            except model_tags.TagFault:  # (a random tag may be malformed)
                 continue
             counts[wanted] += 1
             lacks = tag_words.lacks(sexp.read(model_values.canonical(tag)), sexp.read(model_values.canonical(request)))
@@ -821,8 +820,8 @@ int main(int count, char **words)
         self.assertEqual(status, 0, output)
 
     def test_install_sh_installs_and_uninstalls(self):
-        """install.sh takes the built program and libraries, for which empty files are enough here. --uninstall leaves no file under the prefix, the
-        folder of the installation. Nothing is made beside it."""
+        """install.sh takes a built program, a static library and the shared one beside it: empty files here. --uninstall leaves no file under the
+        prefix, the folder of the installation. Nothing is made beside it."""
         for name in ("prog", "lib.a", "lib.so"):
             self.write(name, "")
         before = set(os.listdir(self.room))

@@ -57,7 +57,7 @@ class Attacks(OfSite):
         self.assertEqual(self.site.status("ann", "GET", "/web/%69ndex.html"), 200)
 
     def test_foreign_certificate(self) -> None:
-        """A client that has another key than that of the certificate that it shows gets no connection."""
+        """A client that shows Ann's certificate and has only Eve's key gets no connection: `foreign.go` prints a fault of TLS, and no answer."""
         files = map(self.site.at, ("keys/ann.crt", "keys/eve.crt", "keys/eve"))
         words = ("go", "run", os.path.join(TESTS, "programs", "foreign.go"), f"127.0.0.1:{self.site.port}", *files)
         before = self.count_lines()

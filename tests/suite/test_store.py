@@ -199,7 +199,7 @@ class Command(OfStore):
         with contextlib.closing(sqlite3.connect(old)) as connection, connection:
             connection.execute("PRAGMA journal_mode = WAL")
             connection.execute("CREATE TABLE entries (number INTEGER PRIMARY KEY AUTOINCREMENT, principal BLOB NOT NULL, text BLOB NOT NULL)")
-            connection.executemany("INSERT INTO entries VALUES (?, ?, ?)", reversed(rows))
+            connection.executemany("INSERT INTO entries VALUES (?, ?, ?)", reversed(rows))  # (the numbers say the order)
         command, = re.findall(r"^    (python3 -c .*) OLD > LIST$", text_of("apps/spki-store/README.md"), re.MULTILINE)
         subprocess.run(["sh", "-c", f'{command} "$0" > "$1"', old, exported], check=True)
         self.assertEqual(self.spki_store(0, "import", exported), f"entries added: {len(wanted)}\n")
@@ -214,6 +214,7 @@ class Command(OfStore):
             for text in (f"CREATE SCHEMA {old}", f"SET LOCAL search_path TO {old}",
                          "CREATE TABLE entries (number bigserial PRIMARY KEY, principal bytea NOT NULL, text bytea NOT NULL)"):
                 self.store.connection.execute(text.encode())
+            # (reversed, since the numbers say the order)
             self.store.connection.cursor().executemany("INSERT INTO entries VALUES (%s, %s, %s)", list(reversed(rows)))
             self.store.connection.execute(statement.replace("spki.", f"{self.schema}.").encode())
         self.check_entries(wanted)
@@ -397,8 +398,7 @@ class WithDriver(OfDaemon):
 
 # `stale_seconds` of the daemons: the state of a store that is older decides nothing.
 STALE = 3
-# The site that clients sign requests to.
-SITE = "files.example.org"
+SITE = "files.example.org"  # (to which clients sign requests)
 
 
 class StoreDaemon:
@@ -693,13 +693,14 @@ class Replicated(OfServed):
             self.start_beat(self.server.address)
             daemons = [self.start_daemon("behind", replica), self.start_daemon("direct", self.server)]
             front = os.path.join(self.room, "front")
-            config = self.file(PROXY.format(front=front, certificate=urllib.parse.quote(checker.certificate).replace("%", "%%"),
-                                            one=daemons[0].daemon.socket, other=daemons[1].daemon.socket).encode(), "haproxy.cfg")
+            names = {"front": front, "one": daemons[0].daemon.socket, "other": daemons[1].daemon.socket}
+            certificate = urllib.parse.quote(checker.certificate).replace("%", "%%")  # (HAProxy reads `%%` as `%`)
+            config = self.file(PROXY.format(**names, certificate=certificate).encode(), "haproxy.cfg")
             process = subprocess.Popen(["haproxy", "-f", config], stdout=subprocess.DEVNULL, stderr=subprocess.DEVNULL)
             stack.enter_context(databases.killed_at_end(process))
 
             def are_all(wanted: int) -> bool:
-                """Whether HAProxy answers ten requests with this status."""
+                """Whether HAProxy answers ten requests with this status. It may not listen yet."""
                 with contextlib.suppress(OSError):
                     return all(daemons[0].daemon.ask(alice, "GET", "/web/a", path=front).status == wanted for _ in range(10))
                 return False
