@@ -487,7 +487,7 @@ class OfMistakes(CommandTest):
                     self.assertEqual(*remarks)
 
     def test_what_is_refused_is_what_the_model_refuses(self):
-        """MISTAKES says of an access list that it is refused exactly if the model in Python refuses to open a guard with it, by the strict policy."""
+        """rows/mistakes.py says that a list is refused exactly if the model in Python refuses to open a guard with it, by the strict policy."""
         for what, name, text, _, is_refused, _ in MISTAKES:
             if name == "acl.sexp":
                 with self.subTest(what), self.assertRaises(guard.Refused) if is_refused else contextlib.nullcontext():

@@ -40,8 +40,7 @@ VALGRIND_STEP = 9
 MOST_ASKS = 2097152
 # What one text may take: seconds, and MiB.
 MOST_SECONDS, MOST_MEMORY = 10, 256
-# The octets of a small stack.
-STACK = 256 * 1024
+STACK = 256 * 1024  # (the octets of a small stack)
 # The example on which the requests before the first read are refused too.
 WORDS_REFUSED = "no-entries.csexp"
 # How runs end: the status, the output and the errors.
@@ -163,14 +162,15 @@ def most_work():
         yield make.__name__, "check", make(long_chains.LENGTHS[-1]), b"yes entry 1\n"
     for shape in linear.SHAPES:
         yield shape.name, "check", shape.text(MOST_OCTETS)[1], b"no\n"
-    yield linear.large_tag_and_set.__name__, "check", linear.large_tag_and_set(1, linear.BEHIND_LARGE, linear.MEMBERS), b"no\n"
+    large_tag_and_set = linear.large_tag_and_set(entries=1, certificates=linear.BEHIND_LARGE, members=linear.MEMBERS)
+    yield linear.large_tag_and_set.__name__, "check", large_tag_and_set, b"no\n"
     for what, text, answer in long_chains.widest():
         yield what, "check", text, answer
         yield what, "explain", text, b"entry 1 "
         yield what, "reduce", text, b"entry 1 "
     for what, tag in (("(*)", check.STAR), ("a", check.string("a"))):
         for command, answer in (("check", b"no\n"), ("explain", b"entry 1 NotTheKey\n"), ("reduce", b"entry 1 (five ")):
-            yield f"ten {what} behind a large tag", command, long_chains.behind_a_large_tag(10, tag), answer
+            yield f"ten {what} behind a large tag", command, long_chains.behind_a_large_tag(more=10, tag=tag), answer
     for what, text in long_chains.large_tags():
         for command, answer in (("check", b"no\n"), ("explain", b"entry 1 NotTheKey\n")):
             yield what, command, text, answer
