@@ -476,7 +476,7 @@ class Faults(unittest.TestCase):
         module = loaded(os.path.join(FOLDER, "server.py"))
         self.server = module.Server(port=0, workers=mock.Mock(), jobs={"question": None}, start=b"{}")
         self.addCleanup(self.server.server_close)
-        thread = threading.Thread(target=self.server.serve_forever, args=(0.01,))
+        thread = threading.Thread(target=self.server.serve_forever, args=(0.01,))  # (the seconds until it sees `shutdown`)
         thread.start()
         self.addCleanup(thread.join)
         self.addCleanup(self.server.shutdown)
