@@ -2,7 +2,7 @@
 signal or random word ends it by a traceback. Most tests have a folder with the private keys `alice`, `bob` and `carol`, their public keys `alice.pub`
 and so on, the access list acl.sexp with an entry for alice, her certificate `to-bob`, and an empty `folder`. `self.cert(WORD ..)` runs `spki-cert`
 there. Its status must be `wanted`: 0 is done, 1 is no, 2 says that a file or word is refused, 3 that reading or writing failed or that a signal came,
-and 4 asks for `--yes`, because what was wanted is probably a mistake. In Python an S-expression is octets or a list of S-expressions."""
+and 4 asks for `--yes`, since the command is probably a mistake. In Python an S-expression is octets or a list of S-expressions."""
 import base64
 import contextlib
 import datetime
