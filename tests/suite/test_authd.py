@@ -1,5 +1,8 @@
 """The daemon `spki-authd` as a program among others: a service manager that hands it its socket and is told what it does, readers of its log that
-hang or are gone, a disk that is full, nginx in front of it, and the files of systemd that come with it."""
+hang or are gone, a disk that is full, nginx in front of it, and the files of systemd that come with it. The daemon writes a line to its log of grants
+for each grant, and denials to standard output. `self.headers()` are those that a web server sends for Alice, who may read all files.
+`self.ask_often(SOCKET, TIMES, HEADERS)` returns the statuses of the answers: 200 is a grant, 400 a denial of a malformed path, 503 a fault of the
+daemon, and 500 one that nginx has found. `daemon.run(OPTION)` runs the program once more, with this option."""
 import contextlib
 import json
 import os
@@ -142,34 +145,35 @@ class Log(OfDaemon):
             os.truncate(daemon.grants, 0)
             self.assertEqual(self.ask_often(daemon.socket, 1, self.headers()), [200])
 
-    def test_reader_that_hangs(self) -> None:
+    def test_a_log_reader_that_hangs_delays_no_answer(self) -> None:
         """Nobody reads the pipe to which the daemon writes its denials; later the pipe has no reader. 3,000 denials of over 500 octets, of paths that
         begin with `//`, fill it. Each request is answered, each grant has its line in the log of grants, and the lines that are lost are counted."""
         with self.daemon() as daemon:
+            # (the daemon is started once more, with both its outputs at a pipe)
             daemon.process.terminate()
             daemon.process.wait()
             reader, writer = os.pipe()
-            hung = subprocess.Popen([self.daemon_program, "-config", daemon.config], stdout=writer, stderr=writer)
+            piped = subprocess.Popen([self.daemon_program, "-config", daemon.config], stdout=writer, stderr=writer)
             os.close(writer)
             try:
                 waits_for("the daemon listens", lambda: listens(daemon.socket))
                 self.assertEqual(set(self.ask_often(daemon.socket, 300, self.headers("/web/" + "a" * 500))), {200})
                 self.assertEqual(set(self.ask_often(daemon.socket, 3000, self.headers("//" + "a" * 500))), {400})
                 self.assertEqual(self.ask_often(daemon.socket, 5, self.headers()), [200] * 5)
-                self.assertEqual(len(self.lines(daemon.grants)), 305)
+                self.assertEqual(len(self.lines(daemon.grants)), 300 + 5)
                 self.assertEqual(daemon.run("-reload")[0], 0)
                 self.assertRegex(daemon.run("-metrics")[1], r"\nspki_authd_lines_lost_total [1-9]\d+\n")
                 os.close(reader)
                 self.assertEqual(self.ask_often(daemon.socket, 5, self.headers("//")), [400] * 5)
                 self.assertEqual(self.ask_often(daemon.socket, 5, self.headers()), [200] * 5)
-                hung.terminate()
-                self.assertEqual(hung.wait(SECONDS), 0)
+                piped.terminate()
+                self.assertEqual(piped.wait(SECONDS), 0)
             finally:
-                hung.kill()
-                hung.wait()
+                piped.kill()
+                piped.wait()
             self.start_again(daemon)
 
-    def test_readers_that_are_gone(self) -> None:
+    def test_a_log_reader_that_is_gone_ends_nothing(self) -> None:
         """A pipe at standard error whose reader is gone does not end the daemon."""
         with self.daemon() as daemon:
             assert daemon.process.stderr is not None
@@ -262,8 +266,8 @@ class Started(OfDaemon):
     """The daemon under a service manager."""
 
     def test_what_the_manager_is_told(self) -> None:
-        """Messages come at a reload, at one that is refused since the list has a fault, and at the end. The daemon does
-        not remove the manager's socket."""
+        """Messages come at a reload, at one that is refused since the list has a fault, and at the end. The daemon does not remove the manager's
+        socket."""
         with managed(self.daemon_program, self.access_list) as manager:
             process = manager.start()
             try:
@@ -323,17 +327,18 @@ class Started(OfDaemon):
                 os.chmod(daemon.socket, 0o600)
                 self.assertEqual(self.ask_often(daemon.socket, 2, self.headers()), [200, 200])
                 self.assertEqual(daemon.run("-health")[0], 0)
-            except OSError:
+            except OSError:  # (the log says why no request was answered)
                 self.fail("\n".join(self.lines(daemon.log)))
             finally:
                 process.terminate()
                 process.wait()
 
     @needs.needs("unshare", "ss")
-    def test_length_of_the_queue(self) -> None:
+    def test_the_queue_is_as_long_without_proc_sys(self) -> None:
         """A daemon from which systemd's setting ProcSubset=pid hides /proc/sys cannot read the system's limit for queues of connections. Its queue is
         as long as that of any other daemon: 4,096, or the limit if that is lower."""
         with self.daemon() as daemon:
+            # (the other daemon has a socket and a log of its own, in a mount namespace where `needs.HIDES` hides /proc/sys)
             other = os.path.join(os.path.dirname(daemon.config), "other")
             Daemon.write(f"{other}.json", text_of(daemon.config).replace(daemon.socket, other).replace(daemon.grants, f"{other}.log"))
             words = [*needs.APART, "sh", "-c", f"{needs.HIDES} && exec {self.daemon_program} -config {other}.json"]
@@ -458,10 +463,10 @@ class BehindNginx(OfDaemon):
         listener = socket.create_server((host, int(port)))
 
         def serve() -> None:
-            with contextlib.suppress(OSError):
+            with contextlib.suppress(OSError):  # (the listener is shut down at the end)
                 while True:
                     client = listener.accept()[0]
-                    with contextlib.suppress(OSError), context.wrap_socket(client, server_side=True) as connection:
+                    with contextlib.suppress(OSError), context.wrap_socket(client, server_side=True) as connection:  # (nginx breaks it off)
                         received.append(connection.recv(65536))
                         connection.sendall(b"HTTP/1.1 200 OK\r\nContent-Length: 0\r\n\r\n")
 
@@ -509,9 +514,9 @@ class Units(unittest.TestCase):
         status, output = output_of("systemd-analyze", "security", "--offline=yes", "--threshold=6", UNITS[0])
         self.assertEqual(status, 0, output[-300:])
 
-    def test_what_must_be_set(self) -> None:
-        """The units have the lines that prevent faults. Without some of them somebody had to start the service by hand after some failed starts, a
-        reload could not fail, and the runtime folder was removed with the socket in it."""
+    def test_lines_that_the_units_must_have(self) -> None:
+        """The units have the lines that prevent faults. Without some of them somebody would have to start the service by hand after failed starts, a
+        reload could not fail, and the runtime folder would be removed with the socket in it."""
         service, unit = (text_of(path).splitlines() for path in UNITS)
         for line in ("StartLimitIntervalSec=0", "Type=notify", "ExecReload=/usr/local/bin/spki-authd -reload -config /etc/spki-authd/config.json",
                      "RuntimeDirectoryPreserve=yes", "LogRateLimitIntervalSec=30s", "LogRateLimitBurst=30000", "Requires=spki-authd.socket"):

@@ -65,7 +65,8 @@ class Asked(NamedTuple):
 
 
 def questions(program) -> list[Asked]:
-    """The questions of all cases of the tables and chains.py, but not of texts that are no cases. Each is named by the place of its first row."""
+    """The questions of all cases of the tables and chains.py, but not of texts that are no cases. Each is named by the place `FILE:LINE` of the first
+    row of a table, a command with a text and its answer, that has this case. `program` is the path of `spki`."""
     rows = [row for table in tables_here() for row in rows_of(table)] + [Row(*fields) for fields in chains.rows()]
     rows = [row for row in rows if row.command in COMMANDS.values() and not row.answer.startswith(NO_CASE)]
     with ThreadPoolExecutor(os.cpu_count()) as pool:
@@ -85,7 +86,8 @@ def accepted_by(rows, sequence):
 
 
 def words_of(request):
-    """The strings by which a guard takes a request: one for a string. None for a list that has lists inside or has fewer than two strings."""
+    """The strings by which a guard takes a request: one for a string. None for a list that has lists inside or has fewer than two strings: one string
+    alone is a request that is no list."""
     if isinstance(request, bytes):
         return (request,)
     return tuple(request) if isinstance(request, list) and len(request) > 1 and all(isinstance(each, bytes) for each in request) else None
@@ -110,6 +112,7 @@ def questions_of(program, text, name) -> Iterator[Asked]:
     if line.startswith(b"refused") and line != TOO_LARGE:
         case[2] = [b"accepted"]
     # (an eighth member, behind the moment, is `(policy strict)`)
+    is_strict = len(case) == 8
     access_list, rows, sequence, (_, key), (_, request), (_, moment) = case[1:7]
     texts = canonical(access_list), canonical(sequence), canonical(key)
     accepted = accepted_by(rows[1:], sequence[1:])
@@ -118,9 +121,9 @@ def questions_of(program, text, name) -> Iterator[Asked]:
         line = run(program, wanted, canonical(case))[1]
         if command == "decide" and line == TOO_LARGE:
             line = decided_by_model(canonical(case))
-        yield Asked(name, command, len(case) == 8, *texts, canonical(request), canonical(moment), accepted, line)
+        yield Asked(name, command, is_strict, *texts, canonical(request), canonical(moment), accepted, line)
         if words or seconds is not None:
-            yield Asked(f"{name}, by strings or seconds", command, len(case) == 8, *texts, words or canonical(request),
+            yield Asked(f"{name}, by strings or seconds", command, is_strict, *texts, words or canonical(request),
                         canonical(moment) if seconds is None else seconds, accepted, line)
 
 
@@ -245,7 +248,7 @@ class Words(unittest.TestCase):
         cells = [(text, cell) for row in rows.splitlines() for text, cell in zip(texts, row.split("|")[2:])]
         named = [(text, name) for text, cell in cells for code in re.findall(r"`([^`]*)`", cell) for name in re.findall(r"\b(?!true)\w+", code)]
         self.assertEqual([name for text, name in named if not re.search(rf"(\b|(?=_)){name}\b", text)], [])
-        self.assertGreater(rows.count("\n"), 15)
+        self.assertGreater(rows.count("\n"), 15)  # (the whole table was found)
 
     def test_highest_limits(self):
         """The bindings have the numbers of the header for the highest limits and the usual answer. Of the usual limits, 65,536 and 2,000,000, no
@@ -319,7 +322,7 @@ class InPython(Binding):
         done = subprocess.run(words, cwd=PYTHON, timeout=SECONDS, capture_output=True, text=True)
         self.assertEqual(done.returncode, 0, done.stdout)
 
-    def test_questions(self):
+    def test_answers_are_those_of_the_program(self):
         """The module answers each question as the program does."""
         sys.path.append(PYTHON)
         spki = importlib.import_module("spki")
@@ -328,11 +331,11 @@ class InPython(Binding):
         self.assertEqual(fault, "", fault)
 
     @needs.needs("import cryptography")
-    def test_example(self):
+    def test_the_example_grants_and_denies(self):
         self.check_decisions(sys.executable, os.path.join(PYTHON, "examples", "decide.py"))
 
     @needs.needs("import cryptography")
-    def test_asynchronous_example(self):
+    def test_the_asynchronous_example_grants_and_denies(self):
         self.check_decisions(sys.executable, os.path.join(PYTHON, "examples", "asynchronous.py"))
 
     @needs.needs("import pip", "import setuptools", "import wheel")
@@ -388,11 +391,11 @@ class InC(Binding):
             self.check_decisions(program)
 
     @needs.needs("/usr/include/gcrypt.h")
-    def test_example_by_gcrypt(self):
+    def test_the_example_decides_by_gcrypt(self):
         self.check_verifier("verify_gcrypt", "-lgcrypt")
 
     @needs.needs("openssl/evp.h")
-    def test_example_by_openssl(self):
+    def test_the_example_decides_by_openssl(self):
         self.check_verifier("verify_openssl", "-lcrypto")
 
 
@@ -408,7 +411,7 @@ class InCpp(Binding):
             self.assertEqual(output_of("g++", *words, "-o", program, source, self.library, seconds=SECONDS), (0, ""))
             self.assertEqual(output_of(*by, program, seconds=SECONDS), (0, ""))
 
-    def test_owned_handles(self):
+    def test_owned_handles_under_address_sanitizer(self):
         self.check_owned_handles(["-fsanitize=address,undefined"])
 
     @needs.needs("valgrind")
@@ -446,20 +449,19 @@ class InRust(Binding):
             packed = {os.path.basename(path) for path in glob.glob(os.path.join(room, "package", "*.crate"))}
             self.assertEqual(packed, {f"{name}-{text_of('VERSION').strip()}.crate" for name in ("spki", "spki-sys")})
 
-    def test_documents(self):
-        """The documents are made without warnings."""
+    def test_documents_are_made_without_warnings(self):
         self.cargo("doc", "--quiet", "--workspace", "--no-deps")
 
     @needs.needs("cargo-clippy")
-    def test_lints(self):
+    def test_clippy_finds_nothing(self):
         self.cargo("clippy", "--quiet", "--workspace", "--all-targets", "--", "-D", "warnings")
 
     @needs.needs("cargo-fmt")
-    def test_layout(self):
+    def test_the_formatter_changes_nothing(self):
         self.cargo("fmt", "--all", "--check")
         self.cargo("fmt", "--check", "--manifest-path", os.path.join("spki-serde", "Cargo.toml"))
 
-    def test_questions(self):
+    def test_answers_are_those_of_the_program(self):
         """The example `asked` of the crate answers each question as the program does. It writes each answer without its last line feed."""
         asked = all_questions(self.program)
         lines = strings_in(self.cargo("run", "--quiet", "--example", "asked", octets=b"".join(map(framed, asked))))
@@ -485,7 +487,7 @@ class InRust(Binding):
         self.assertEqual(output_of(*words, seconds=SECONDS), (0, "400 granted\n"))
 
     @needs.needs("openssl", "import cryptography")
-    def test_example(self):
+    def test_the_example_grants_and_denies(self):
         self.cargo("build", "--quiet", "--example", "decide")
         self.check_decisions(os.path.join(RUST, "out", "debug", "examples", "decide"))
 

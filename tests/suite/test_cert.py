@@ -1,7 +1,8 @@
 """Tests `spki-cert`, the command of apps/spki-cert/: keys of ssh-keygen and openssl, signatures by files and by ssh-agent, warnings, answers,
-pictures, what is written where, and how it is installed.
-
-A test whose tool is missing is skipped, and the end of the run names the tool's Debian package."""
+pictures, what is written where, and how it is installed. Each test has an empty folder: `self.cert(WORD ..)` runs the command in it and returns what
+it writes, `self.write(NAME, TEXT)` writes a file there, and `self.at(NAME)` is its path. In Python an S-expression is octets or a list of
+S-expressions: `value_in(TEXT).value` is that of a text, and `sexp.canonical(VALUE)` its canonical form. The items of a sequence, numbered from 1, are
+keys, and certificates with their signatures. A test whose tool is missing is skipped, and the end of the run names the tool's Debian package."""
 import base64
 import collections
 import contextlib
@@ -43,11 +44,9 @@ TAG = "(packages (* set read write) (* prefix /web/))"
 # A reason as the library gives it: the numbers of an entry and an item, each or None, and the word of `explain`.
 Reason = collections.namedtuple("Reason", "entry item word")
 FEW_FILES, FILES = 100, 1000
-# How many times as much processor time FILES files may take as FEW_FILES: 10 times as many take 10 times as much, and
-# the rest is for what else the machine does. And how many modules a start may load.
+# How many times as much processor time FILES files may take as FEW_FILES, with some noise; and how many modules a start may load.
 MOST_TIMES, MOST_MODULES = 20, 100
-# After how many seconds a program that hangs is ended.
-SECONDS = 1800
+SECONDS = 1800  # (after which a program that hangs is ended)
 MANUAL = text_of("docs/spki-cert.1")
 needs_ssh = needs.needs("ssh-keygen")
 
@@ -66,7 +65,7 @@ def status_of(main):
 
 
 def start_agent(test: unittest.TestCase) -> str:
-    """Starts ssh-agent, which is ended after the test. Returns the path of its socket."""
+    """Starts ssh-agent, which is ended after the test. Returns the path of its socket. It prints lines `NAME=VALUE; export NAME;`."""
     script = run_checked("ssh-agent", "-s").decode()
     settings = dict(part.split("=", 1) for part in script.replace(";", "\n").splitlines() if "=" in part)
     test.addCleanup(os.kill, int(settings["SSH_AGENT_PID"]), signal.SIGTERM)
@@ -130,7 +129,7 @@ class OfKeys(CommandTest):
     """`spki-cert key`, which converts keys of OpenSSH and PEM to keys of SPKI, and makes new ones."""
     @needs_ssh
     def test_keys_of_openssh_are_read_and_written(self):
-        """The public, the private and the converted key give the same SPKI key. Converted back to OpenSSH, it has the fingerprint of the first."""
+        """The public, the private and the converted key give the same SPKI key. Back in OpenSSH, it has the first one's length and fingerprint."""
         for kind in TYPES:
             self.make_ssh_key(kind, kind)
             public = self.cert("key", f"{kind}.pub")
@@ -138,11 +137,12 @@ class OfKeys(CommandTest):
             self.write("key.sexp", public)
             self.assertEqual(public, self.cert("key", "key.sexp"))
             self.write("back.pub", keys.openssh_line(keys.public_of(value_in(public.encode()).value)))
-            self.assertEqual(*(run_checked("ssh-keygen", "-l", "-f", self.at(name)).split()[:2] for name in (f"{kind}.pub", "back.pub")))
+            first, back = (run_checked("ssh-keygen", "-l", "-f", self.at(name)).split()[:2] for name in (f"{kind}.pub", "back.pub"))
+            self.assertEqual(first, back)
 
     @needs_ssh
-    def test_the_key_that_ssh_keygen_shows(self):
-        """The key of a line is the one that ssh-keygen shows, and none in its comment or options. A file with a line and a PEM block has two keys, which
+    def test_a_line_has_the_key_that_ssh_keygen_shows(self):
+        """The key of a line is that which ssh-keygen shows, not one in its comment or options. A file with a line and a PEM block has two keys, which
         are numbered in their order. A block that is cut off is a key that cannot be read, and hides no line behind it."""
         self.make_ssh_key("bob")
         self.make_ssh_key("mallory")
@@ -186,20 +186,19 @@ class OfKeys(CommandTest):
 
     def test_private_keys_of_libgcrypt_are_read(self):
         """A private key in the form of libgcrypt has the members of the public key, and the secret number `d`."""
-        from spki_verify import number
+        from spki_verify import number as octets_of_number
         secret = keys.new_private("p256")
         public = keys.key_of(secret.public_key())
-        private = [b"private-key", [*public[1], [b"d", number(secret.private_numbers().private_value)]]]
+        private = [b"private-key", [*public[1], [b"d", octets_of_number(secret.private_numbers().private_value)]]]
         self.write("key", sexp.laid_out(private))
         self.assertEqual(value_in(self.cert("key", "key").encode()).value, public)
 
     @needs_ssh
-    def test_numbers_have_the_form_of_libgcrypt(self):
-        """The 2,048 bits of n are 256 octets. A zero octet precedes them, since the first bit would be a sign."""
+    def test_numbers_of_rsa_have_the_form_of_libgcrypt(self):
+        """The 2,048 bits of n are 256 octets. A zero octet precedes them, since the first bit would be a sign. The number e is 65537."""
         self.make_ssh_key("key", "rsa")
-        key = value_in(self.cert("key", "key.pub").encode()).value
-        self.assertEqual([number[0] for number in key[1][1:]], [b"n", b"e"])
-        self.assertEqual((len(key[1][1][1]), key[1][1][1][0], key[1][2][1]), (257, 0, b"\1\0\1"))
+        _, (_, (n_head, n), (e_head, e)) = value_in(self.cert("key", "key.pub").encode()).value
+        self.assertEqual((n_head, len(n), n[0], e_head, e), (b"n", 257, 0, b"e", b"\1\0\1"))
 
     def test_what_is_no_usable_key_is_refused(self):
         """A key of a kind or length that is not used, a weak one (of zeros), two private keys and no key are refused. The message says why."""
@@ -229,12 +228,12 @@ class OfKeys(CommandTest):
     def test_other_forms_of_keys_and_signature_values_do_not_verify(self):
         """`shorter` is the same key, without the zero octet before n. The wrong values are no valid `(sig-val ..)` of RSA."""
         signer = keys.FileSigner(keys.new_private(keys.RSA))
-        value, key = signer.sign(b"x"), signer.key
-        self.assertTrue(keys.verifies(key, b"x", value))
-        shorter = [key[0], [key[1][0], [b"n", key[1][1][1][1:]], key[1][2]]]
+        value, (head, (algorithm, (_, n), e)) = signer.sign(b"x"), signer.key
+        self.assertTrue(keys.verifies(signer.key, b"x", value))
+        shorter = [head, [algorithm, [b"n", n[1:]], e]]
         self.assertFalse(keys.verifies(shorter, b"x", value))
         for wrong in (b"", [b"sig-val"], [b"sig-val", [b"rsa", [b"s", b""]]], [b"sig-val", [b"eddsa", [b"r", bytes(32)], [b"s", bytes(32)]]]):
-            self.assertFalse(keys.verifies(key, b"x", wrong))
+            self.assertFalse(keys.verifies(signer.key, b"x", wrong))
 
     @needs_ssh
     def test_a_new_key_is_read_by_ssh_keygen(self):
@@ -254,8 +253,8 @@ class OfKeys(CommandTest):
     @needs_ssh
     def test_key_as_json(self):
         self.make_ssh_key("a")
-        row, = json.loads(self.cert("key", "--json", "a.pub"))
-        self.assertEqual((row["algorithm"], row["hash"]), ("Ed25519", self.cert("key", "--hash", "a").strip()))
+        key, = json.loads(self.cert("key", "--json", "a.pub"))
+        self.assertEqual((key["algorithm"], key["hash"]), ("Ed25519", self.cert("key", "--hash", "a").strip()))
 
 
 class OfPassphrases(CommandTest):
@@ -294,7 +293,7 @@ class OfPassphrases(CommandTest):
 
     @needs.needs("openssl")
     def test_encrypted_keys_are_refused_without_a_terminal(self):
-        """Without a terminal, where the passphrase is typed, no encrypted key is read, and none is made."""
+        """Without a terminal, where the passphrase is typed, no encrypted key is read, and none is made. A new session has none."""
         self.make_pem_key("key.pem", "ed25519", "-aes-256-cbc", "-pass", "pass:sesame")
         done = subprocess.run([sys.executable, COMMAND, "key", "key.pem"], cwd=self.room, stdin=subprocess.DEVNULL, capture_output=True,
                               text=True, start_new_session=True)
@@ -359,7 +358,7 @@ class OfCertificates(CommandTest):
         self.assertEqual(subjects, [digest, f"(name {bob} team)", f"(name {alice} builders)"])
         self.assertIn("needs --to", self.cert("sign", "--by", "alice", "--tag", TAG, "--days", "1", wanted=2))
 
-    def test_names_are_defined(self):
+    def test_a_certificate_that_defines_a_name_has_no_tag(self):
         self.cert("name", "--by", "alice", "--name", "builders", "--to", "bob.pub", "--days", "30", "-o", "c.sexp")
         each, = self.verify("c.sexp")
         self.assertEqual((each.terms.name, each.terms.tag), (b"builders", None))
@@ -392,10 +391,10 @@ class OfCertificates(CommandTest):
         self.assertTrue(self.cert("entry", "--to", "bob.pub", "--tag", TAG).startswith("(entry"))
         output = self.cert("entry", "--to", "alice.pub", "--tag", TAG, "--propagate", "--acl", "acl.sexp")
         self.assertEqual(output, "made acl.sexp\nentries added: 1\n")
-        before = octets_in(self.at("acl.sexp")).replace(b"(tag", b"\n\n  (tag")
+        before = octets_in(self.at("acl.sexp")).replace(b"(tag", b"\n\n  (tag")  # (line breaks that the command would not write)
         self.write("acl.sexp", before)
         self.cert("entry", "--to", "bob.pub", "--named", "team", "--tag", TAG, "--days", "9", "--comment", "the team", "--acl", "acl.sexp")
-        self.assertTrue(octets_in(self.at("acl.sexp")).startswith(before.rstrip()[:-1]))
+        self.assertTrue(octets_in(self.at("acl.sexp")).startswith(before.rstrip().removesuffix(b")")))
         self.cert("check", "acl.sexp")
         os.chmod(self.at("acl.sexp"), 0o640)
         os.symlink("acl.sexp", self.at("link.sexp"))
@@ -409,7 +408,8 @@ class OfCertificates(CommandTest):
         self.assertEqual(len(value_in(octets_in(self.at("acl.tsexp"))).value), 3)
 
     def test_entries_are_removed(self):
-        """`entry --remove` removes all entries for a subject, named by its key or a hash, and no others. If there are none, the status is 1."""
+        """`entry --remove` removes all entries for a subject, named by its key or any hash of it, and no others. The status is 1 if there are
+        none."""
         for words in (("alice.pub",), ("bob.pub",), ("bob.pub", "--named", "team"), ("bob.pub",), ("alice.pub",)):
             self.cert("entry", "--to", *words, "--tag", TAG, "--yes", "--acl", "acl.sexp")
         output = self.cert("entry", "--remove", "--to", self.cert("key", "--hash", "bob.pub"), "--acl", "acl.sexp")
@@ -424,22 +424,23 @@ class OfCertificates(CommandTest):
     def test_entries_need_yes_and_are_refused(self):
         """What is probably a mistake ends with status 4, and what a service would refuse with 2. The list stays as it is."""
         self.write("acl.sexp", "(acl)")
-        to, into = ("entry", "--to", "bob.pub"), ("--acl", "acl.sexp")
+        to_bob, into_list = ("entry", "--to", "bob.pub"), ("--acl", "acl.sexp")
         for words, status, message in [
-                ((*to, "--tag", "(*)"), 4, "every request"), ((*to, "--tag", "(packages /web/*)"), 4, "(* prefix /web/)"),
-                ((*to, "--tag", TAG, "--until", "2020-01-01"), 4, "it ended on 2020"),
-                ((*to, "--tag", TAG, "--try", "packages", "delete", "x"), 4, "does not contain"),
+                ((*to_bob, "--tag", "(*)"), 4, "every request"), ((*to_bob, "--tag", "(packages /web/*)"), 4, "(* prefix /web/)"),
+                ((*to_bob, "--tag", TAG, "--until", "2020-01-01"), 4, "it ended on 2020"),
+                ((*to_bob, "--tag", TAG, "--try", "packages", "delete", "x"), 4, "does not contain"),
                 (("entry", "--to", f"(hash sha1 #{'00' * 20}#)", "--tag", TAG), 4, "names no key"),
-                (("entry", "--to", "(name team)", "--tag", TAG), 2, "--to KEY --named NAME"), ((*to, "--tag", "(a"), 2, "a `)` is missing")]:
+                (("entry", "--to", "(name team)", "--tag", TAG), 2, "--to KEY --named NAME"), ((*to_bob, "--tag", "(a"), 2, "a `)` is missing")]:
             with self.subTest(message):
-                self.assertIn(message, self.cert(*words, *into, wanted=status))
+                self.assertIn(message, self.cert(*words, *into_list, wanted=status))
                 self.assertEqual(octets_in(self.at("acl.sexp")), b"(acl)")
-        self.cert(*to, "--tag", "(*)", "--yes", *into)
+        self.cert(*to_bob, "--tag", "(*)", "--yes", *into_list)
         self.write("acl.sexp", "(acl")
-        self.assertIn("acl.sexp: refused", self.cert(*to, "--tag", TAG, *into, wanted=2))
+        self.assertIn("acl.sexp: refused", self.cert(*to_bob, "--tag", TAG, *into_list, wanted=2))
 
     def test_no_file_is_half_written(self):
-        """A file that is there stays as it is if `spki-cert` fails. No temporary file is left."""
+        """A file that is there stays as it is if `spki-cert` fails, because it cannot write, or because it asks for --yes: the certificate has no
+        end. No temporary file is left."""
         self.write("c.sexp", "before")
         os.mkdir(self.at("folder"))
         self.assertIn("nothing was written", self.sign("--days", "1", "-o", "folder", wanted=2))
@@ -455,8 +456,8 @@ class OfCertificates(CommandTest):
         for words in ("alice -> bob", "may delegate", "until 2026-06-30_23:59:59: valid now", f"may {TAG}", "the web", "the signature is valid"):
             self.assertIn(words, output)
         self.assertIn("ENDED", self.cert("show", "--at", "2027-01-01", "c.sexp"))
-        row, = json.loads(self.cert("show", "--json", "--labels", "bob.pub", "c.sexp"))[0]["shows"]
-        self.assertEqual((row["subject"], row["delegates"], row["fault"]), ("bob", True, None))
+        shown, = json.loads(self.cert("show", "--json", "--labels", "bob.pub", "c.sexp"))[0]["shows"]
+        self.assertEqual((shown["subject"], shown["delegates"], shown["fault"]), ("bob", True, None))
         self.write("changed.sexp", octets_in(self.at("c.sexp")).replace(b"(propagate)", b""))
         self.assertIn("DigestDiffers", self.cert("show", "changed.sexp"))
         self.write("c.tsexp", self.cert("show", "--braces", "c.sexp"))
@@ -473,13 +474,13 @@ class OfMistakes(CommandTest):
         for what, name, text, place, is_refused, words in MISTAKES:
             with self.subTest(what):
                 self.write(name, text)
-                first = remarks_on(self.at(name), NOW)[1][0]
+                _, (first, *_) = remarks_on(self.at(name), NOW)
                 self.assertEqual((first.line, first.column, first.is_refused), (*place, is_refused), first.text)
                 self.assertIn(words, first.text)
 
     def test_what_only_looks_like_a_part_gets_no_remark(self):
-        """A list that begins as an entry, a certificate or a hash gets no remark where any list may be: in the value of
-        a signature, and in fields that are not read."""
+        """A list that begins as an entry, a certificate or a hash gets no remark where any list may be, in the value of a signature and in fields
+        that are not read: the remarks are the same as with the string `x` in its place."""
         signed = ('(sequence (cert (issuer (public-key (test a))) (subject (public-key (test b))) (tag (packages)) '
                   '(not-after "2099-01-01_00:00:00"))\n'
                   f" (signature (hash sha256 #{'00' * 32}#) (public-key (test a)) VALUE))")
@@ -494,11 +495,11 @@ class OfMistakes(CommandTest):
                     self.assertEqual(*remarks)
 
     def test_what_is_refused_is_what_the_model_refuses(self):
-        """MISTAKES says of an access list that it is refused exactly if the model in Python refuses to open a guard with it, by the strict policy."""
+        """rows/mistakes.py says that a list is refused exactly if the model in Python refuses to open a guard with it, by the strict policy."""
         for what, name, text, _, is_refused, _ in MISTAKES:
             if name == "acl.sexp":
                 with self.subTest(what), self.assertRaises(guard.Refused) if is_refused else contextlib.nullcontext():
-                    guard.open_guard(text.encode() if isinstance(text, str) else text, True, guard.USUAL)
+                    guard.open_guard(text.encode() if isinstance(text, str) else text, strict=True, limits=guard.USUAL)
 
     def test_the_files_of_a_folder_are_checked(self):
         """`check` reads the files in a folder that are S-expressions or keys. The status is 1 for remarks, and 2 if a service would refuse a file."""
@@ -555,12 +556,12 @@ class OfTags(CommandTest):
             tag = made_tags.tag_for(request, rng)
             try:
                 wanted = model_tags.contains(model_tags.read(tag), request)
-            except model_tags.TagFault:
+            except model_tags.TagFault:  # (a random tag may be malformed)
                 continue
             counts[wanted] += 1
             lacks = tag_words.lacks(sexp.read(model_values.canonical(tag)), sexp.read(model_values.canonical(request)))
             self.assertEqual(lacks is None, wanted, f"{tag} {request} {lacks}")
-        self.assertGreater(min(counts.values()), 200, counts)
+        self.assertGreater(min(counts.values()), 200, counts)  # (each of both answers is tested often)
 
     def test_the_first_member_that_differs_is_named(self):
         for tag, request, words in [("(a b c)", "(a b)", "has 2 members, and the tag at least 3"), ("(a (* set b c))", "(a d)", "no member of"),
@@ -579,8 +580,8 @@ class OfWords(CommandTest):
         for asked in (question("spki-cert", number) for number in range(1500)):
             if asked.command not in ("check", "explain", "reduce"):
                 continue
-            fault, node = read_text(asked.text, "refused case")
-            if fault[0] is None and node.head == b"case" and len(asked.text) < 20000:
+            (wrong, _, _), node = read_text(asked.text, to_explain="refused case")
+            if wrong is None and node.head == b"case" and len(asked.text) < 20000:
                 chosen.update(self.chosen_words(asked.text, node.value))
         self.assertLessEqual({"grants", "TagLacks", "NotTheKey", "NotIssuer", "NotAccepted"}, chosen)
 
@@ -667,7 +668,7 @@ class OfAnswers(CommandTest):
         self.assertEqual(written, [*(answer.strip("\n") for _, _, answer in steps), ""])
 
     def test_the_story_of_three_teams(self):
-        """examples/builds/story.sh has at most 40 lines, its questions get the answers that are wanted, and its certificates verify."""
+        """examples/builds/story.sh has at most 40 lines, its questions get the expected answers, and its certificates verify."""
         folder = self.at("story")
         os.mkdir(folder)
         path = os.path.join(TOP, "examples", "builds", "story.sh")
@@ -685,7 +686,8 @@ class OfAnswers(CommandTest):
             self.verify(os.path.join("story", "certs", name))
 
     def test_ask_says_why(self):
-        """`ask` says in words why a right is granted or denied. A case that it saves gets the same answer, and it picks certificates."""
+        """`ask` says in words why Carol's request is granted or denied, by an entry for Alice and the certificates of Alice for Bob and of Bob for
+        Carol. A case that `ask` saves gets the same answer, and `ask` picks certificates."""
         for name in ("alice", "bob", "carol"):
             self.make_ssh_key(name)
         self.write("acl.sexp", f"(acl (entry {self.cert('key', 'alice.pub')} (propagate) (tag {TAG})))")
@@ -739,8 +741,8 @@ class OfAnswers(CommandTest):
         self.assertIn("no moment of that is in the windows before it (NoValidity)", self.cert(*asks, wanted=1))
 
     def check_names(self, asks):
-        """What `ask` says of a name that is misspelt, and of one that another issuer defines. `asks` are the words of
-        an `ask`, which end with the file c.sexp, `--` and the request."""
+        """What `ask` says of a name that is misspelt, and of one that another issuer defines. `asks` are the words of an `ask`, which end with the
+        file c.sexp, `--` and the request."""
         defines, options, request = ("name", "--to", "carol.pub", "--days", "30"), asks[:-5], asks[-4:]
         self.cert(*defines, "--by", "alice", "--name", "bilders", *into("c.sexp"))
         self.assertIn("the right is with builders of alice there; is `builders` meant? (NotTheName)", self.cert(*asks, wanted=1))
@@ -794,7 +796,7 @@ int main(int count, char **words)
                 done = subprocess.run([self.at("verify"), *map(self.at, ("key", "data", "value"))])
                 self.assertEqual(done.returncode, status, kind)
 
-    def test_it_loads_few_modules(self):
+    def test_the_command_loads_few_modules(self):
         """So that `spki-cert` starts fast, it loads fewer than MOST_MODULES beyond Python's own, and none of cryptography, bcrypt and `spki`."""
         def loaded(*words):
             """The names of the modules that Python loads when it is run with these words."""
@@ -825,9 +827,9 @@ int main(int count, char **words)
         status, output = output_of(*words, cwd=os.path.join(TOP, "apps", "spki-cert"), seconds=SECONDS)
         self.assertEqual(status, 0, output)
 
-    def test_it_is_installed(self):
-        """install.sh takes the built program and libraries, for which empty files are enough here. --uninstall leaves no file under the prefix, the
-        folder of the installation. Nothing is made beside it."""
+    def test_install_sh_installs_and_uninstalls(self):
+        """install.sh takes a built program, a static library and the shared one beside it: empty files here. --uninstall leaves no file under the
+        prefix, the folder of the installation. Nothing is made beside it."""
         for name in ("prog", "lib.a", "lib.so"):
             self.write(name, "")
         before = set(os.listdir(self.room))
@@ -840,7 +842,7 @@ int main(int count, char **words)
         self.assertEqual((left, before), ([], set(os.listdir(self.room)) - {"prefix"}))
 
     @needs.needs("import pip", "import setuptools", "import wheel")
-    def test_pip_installs_it_offline(self):
+    def test_pip_installs_the_command_offline(self):
         """pip installs it with the package of bindings/python, which it needs. By SPKI_LIBRARY=none this package has no library inside."""
         for folder in ("apps/spki-cert", "bindings/python"):
             shutil.copytree(os.path.join(TOP, folder), self.at(folder), ignore=shutil.ignore_patterns("build", "*.egg-info"))

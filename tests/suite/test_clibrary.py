@@ -1,4 +1,6 @@
-"""Asks the libraries for C what the program is asked, and compares the answers octet by octet.
+"""Asks the libraries for C what the program is asked, and compares the answers octet by octet. A question is a name, the number of a command, the
+text of a case, which has all that a decision depends on, and a text of separate rows, or no octets. An answer is a status and octets. The rows of a
+case, `(accepted ROW ..)`, say which signatures are valid. Rows apart are those rows as a text of their own.
 
 `clibrary.c` asks each question with no buffer, with one of no octets, with one octet too few, with enough and with more, between canaries, with
 failing allocations, and then from several threads with 256 KiB of stack each: every command on each file of `examples/`, the rows of the tables, and
@@ -8,14 +10,11 @@ requests by strings, failing allocations, one guard from several threads. `misus
 library, also under AddressSanitizer, valgrind and helgrind. No allocation of the shared library fails, since it calls the C library itself.
 
 `until.c` asks until when a decision holds. `later.c` gives spki.c structures of older and newer headers. `swapped.c` changes a guard under threads.
-
-`fuzz/calls.c` makes the parts of questions from fuzzed octets and compares the answers: from the files of `fuzz/corpus/`, and in `.ci/deep` for
-ten minutes. There spki.c is under AddressSanitizer too.
-
-The libraries for ARM are asked short questions and open guards too, in an emulator. The sample at the head of spki.h is compiled and run.
-
-The symbols of both libraries must be the calls that the header declares and no others. They may need only a few functions of the C library.
-`linked.c` is compiled as C11 and as C++17, with all warnings, and linked with either library; and with two copies of the static one."""
+`fuzz/calls.c` makes the parts of questions from fuzzed octets and compares the answers: from the files of `fuzz/corpus/`, and in `.ci/deep` for ten
+minutes. There spki.c is under AddressSanitizer too. The libraries for ARM are asked short questions and open guards too, in an emulator. The sample
+at the head of spki.h is compiled and run. The symbols of both libraries must be the calls that the header declares and no others. They may need only
+a few functions of the C library. `linked.c` is compiled as C11 and as C++17, with all warnings, and linked with either library; and with two copies
+of the static one."""
 import functools
 import os
 import re
@@ -115,34 +114,28 @@ def questions_by_hand():
     case = text_of("examples/delegation.sexp").encode()
     at, end = case.index(b"(accepted"), case.index(b"\n (sequence")
     rows, bare = case[at:end], case[:at] + NO_ROWS + case[end:]
-    first = rows[len(b"(accepted "):-1]
-    long = b"(accepted " + b" " * 1048576 + b")"
+    row = rows[len(b"(accepted "):-1]
+    # (a text may have 1,048,576 octets, and 64 lists inside each other)
+    spaces = b" " * 1048576
     yes, no = (GRANTED, b"yes entry 1\n"), (NO, b"no\n")
     for name, text, listed, answer in [
-        ("the row", bare, rows, yes),
-        ("no row", bare, NO_ROWS, no),
-        ("the requester's own row", case, NO_ROWS, no),
-        ("two rows", bare, b"(accepted (by (public-key (test c)) (hash sha256 #%s#) s) %s)" % (b"00" * 32, first), yes),
+        ("the row", bare, rows, yes), ("no row", bare, NO_ROWS, no), ("the requester's own row", case, NO_ROWS, no),
+        ("two rows", bare, b"(accepted (by (public-key (test c)) (hash sha256 #%s#) s) %s)" % (b"00" * 32, row), yes),
         ("a certificate that was changed", bare.replace(b"(subject (public-key (test b)))", b"(subject (public-key (test c)))"), rows, no),
-        ("another digest", bare, rows.replace(b"#d7", b"#d8"), no),
-        ("another value", bare, rows.replace(b"sig)", b"sih)"), no),
-        ("another signer", bare, rows.replace(b"test a", b"test b"), no),
-        ("rows that are a case", bare, case, (2, b"refused rows Shape\n")),
-        ("a row alone", bare, first, (2, b"refused rows Shape\n")),
+        ("another digest", bare, rows.replace(b"#d7", b"#d8"), no), ("another value", bare, rows.replace(b"sig)", b"sih)"), no),
+        ("another signer", bare, rows.replace(b"test a", b"test b"), no), ("rows that are a case", bare, case, (2, b"refused rows Shape\n")),
+        ("a row alone", bare, row, (2, b"refused rows Shape\n")),
         ("a second row that is none", bare, rows[:-1] + b" (by))", (2, b"refused rows 2 Shape\n")),
         ("a digest by SHA-1", bare, b"(accepted (by (public-key (test a)) (hash sha1 #%s#) s))" % (b"00" * 20), (2, b"refused rows 1 HashAlg\n")),
-        ("rows without an end", bare, rows[:-1], (2, b"refused rows Short\n")),
-        ("no text of rows", bare, b"", (2, b"refused rows Short\n")),
+        ("rows without an end", bare, rows[:-1], (2, b"refused rows Short\n")), ("no text of rows", bare, b"", (2, b"refused rows Short\n")),
         ("rows and more", bare, b"(accepted) x", (2, b"refused rows Trailing 11\n")),
         ("rows with a tilde", bare, b"(accepted ~)", (2, b"refused rows Bad 10\n")),
-        ("too many octets of rows", bare, long, (2, b"refused rows TooLong\n")),
+        ("too many octets of rows", bare, b"(accepted " + spaces + b")", (2, b"refused rows TooLong\n")),
         ("rows too deep", bare, b"(" * 65 + b")" * 65, (2, b"refused rows TooDeep\n")),
         ("rows in braces: `(8:accepted)` in base64", bare, b"{KDg6YWNjZXB0ZWQp}", no),
-        ("a text that is no case", b"(case)", rows, (2, b"refused case Shape\n")),
-        ("no text", b"", rows, (2, b"refused form Short\n")),
-        ("a case too long", bare + b" " * 1048576, rows, (2, b"refused form TooLong\n")),
-        ("own rows that are none", bare.replace(NO_ROWS, b"(accepted (by))"), rows, (2, b"refused accepted 1 Shape\n")),
-    ]:
+        ("a text that is no case", b"(case)", rows, (2, b"refused case Shape\n")), ("no text", b"", rows, (2, b"refused form Short\n")),
+        ("a case too long", bare + spaces, rows, (2, b"refused form TooLong\n")),
+        ("own rows that are none", bare.replace(NO_ROWS, b"(accepted (by))"), rows, (2, b"refused accepted 1 Shape\n"))]:
         yield (name, CHECK_ACCEPTED, text, listed), answer
 
 
@@ -366,9 +359,9 @@ class Guards(OfC):
     """`cguard.c` and `misuse.c`, with each library, by itself and under AddressSanitizer, valgrind and helgrind: `add_ways` adds the tests."""
 
     def test_too_many_threads(self):
-        """`cguard.c` makes none of 65 threads: it has room for 64."""
+        """`cguard.c` makes none of 65 threads: it has room for 64. It says how it is used, and ends with 99, its status for all that is wrong."""
         status, output = output_of(self.compile("cguard.c", "static"), "65", "0", *parts_of_example())
-        self.assertEqual((status, output[:7]), (99, "usage: "), output)
+        self.assertEqual((status, output.startswith("usage: ")), (99, True), output)
 
 
 class Head(OfC):
@@ -409,7 +402,7 @@ int main(void)
     def test_sample_of_the_header(self):
         """The sample compiles with PARTS in it, without the remarks behind its code, and grants: 39 certificates by a are for a, the last for b."""
         lines = self.SAMPLE.search(text_of("crates/spki_c/spki.h"))[1].splitlines()
-        sample = "\n".join(re.sub(r"(\.\.\.\)?|;) {2,}\w.*", r"\1", line[7:]) for line in lines)
+        sample = "\n".join(re.sub(r"(\.\.\.\)?|;) {2,}\w.*", r"\1", line.removeprefix(" *     ")) for line in lines)
         for old, new in self.PARTS.items():
             self.assertIn(old, sample)
             sample = sample.replace(old, new)

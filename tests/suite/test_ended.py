@@ -1,8 +1,8 @@
 """Tests `spki-cert end`, which writes the file of the certificates that no longer count: what gets into it, what is refused, and what is left
-unchanged then.
-
-The digests come from elsewhere: from the model's canonical form, and from the messages that the library lists to be verified. What the last line
-must be is worked out here."""
+unchanged then. A file of ended certificates has a line for each digest, and a last line `end COUNT SHA-256`. `sealed(LINE ..)` is the whole file with
+these lines, and A, B and C are digests. `self.end(WORD ..)` runs the command on the file ENDED. Its status must be `wanted`: 0 is done, 1 is no, 2 a
+refusal, 3 a fault of the system, and 4 asks for `--yes`. What is expected is not computed by the command: the digests are from the model's canonical
+form and from the messages that the library lists to be verified, and the last line is worked out here."""
 import contextlib
 import fcntl
 import hashlib
@@ -26,7 +26,7 @@ from spki_cert_tool import commands, ending, files
 
 COMMAND = os.path.join(TOP, "apps", "spki-cert", "spki-cert")
 A, B, C = (letter * 64 for letter in "abc")
-ENDED = "etc ended"
+ENDED = "etc ended"  # (a name with a space)
 # Comments of certificates that an older way to end them wrote into the file: as a line of its own, and as the digest of another certificate.
 COMMENTS = ("see sha256 of the release", f"sha256 {A} #")
 WRITERS = 6  # (at the same time)
@@ -48,8 +48,8 @@ def digests_by_model(text: bytes) -> list[str]:
 
 
 def make_unusable(kind: str, path: str) -> None:
-    """Makes at a path what `spki-cert end` must not use as its file: no ordinary file, or one that cannot be used.
-    `kind` names it, as the rows of `test_unusable_files` do."""
+    """Makes at a path what `spki-cert end` must not use as its file: no ordinary file, or one that cannot be used. `kind` is a word of
+    `test_unusable_files`."""
     if kind == "fifo":
         os.mkfifo(path)
     elif kind == "folder":
@@ -146,8 +146,8 @@ class Ends(TestOfEnding):
         self.write(ENDED, sealed())
 
     def test_which_certificate_is_ended(self) -> None:
-        """What is ended is the last certificate of a file, with `--place` the one at a place, a certificate that is no
-        sequence, or a digest, which gets a remark. Comments in certificates change nothing."""
+        """What is ended is the last certificate of a file, with `--place` the one at a place, a certificate that is no sequence, or a digest, which
+        gets a remark. `first` has one certificate, `cert` is this one alone, and `second` has a second one. Their comments change nothing."""
         first, second = self.digests
         for words, wanted in ((["second"], [second]), (["first"], [first]), (["cert"], [first]), (["second", "--place", "1"], [first]),
                               (["second", "--place", "2"], [second]), (["first", "second"], [first, second]), (["--digest", B], [B]),
@@ -189,7 +189,7 @@ class Ends(TestOfEnding):
         self.assertIn("digests added: 1;", self.end("first", "second"))
         self.assertEqual(self.digests_in_file(), self.digests)
 
-    def test_undo(self) -> None:
+    def test_undo_takes_out_all_digests_or_none(self) -> None:
         """`--undo` takes out all digests that are named, and names the command for the daemon; or none, with status 1, if one is not there."""
         others = ["# M\xfcller", "", f"{A} # 2026-01-01", f"{B}"]
         self.write(ENDED, sealed(*others, self.digests[1]))
@@ -201,7 +201,7 @@ class Ends(TestOfEnding):
         self.assertIn("-reload -fewer", self.end("--undo", "second"))
         self.assertEqual(self.octets(ENDED), sealed(*others))
 
-    def test_list(self) -> None:
+    def test_list_shows_each_digest(self) -> None:
         """`--list` writes each digest with its date or `-` and its reason, the last line as the file has it, and no control characters."""
         text = sealed("# a comment", "", f"{A} # 2026-01-02 stolen", f"{B} # 2026-01-03", f"{C} # M\xfcller \x1b[2J 2026-01-04", "d" * 64)
         self.write(ENDED, text)
@@ -231,7 +231,7 @@ class Ends(TestOfEnding):
         after = os.stat(self.at(ENDED))
         self.assertEqual((after.st_mode, after.st_uid, after.st_gid), (before.st_mode, before.st_uid, before.st_gid))
         self.assertTrue(self.octets(ENDED).startswith("# M\xfcller \udcff\n".encode("utf-8", "surrogateescape") + f"{A} # \x01 \xe9\n".encode()))
-        self.assertEqual(self.octets(ENDED).count(b"\n"), 4)
+        self.assertEqual(self.octets(ENDED).count(b"\n"), 2 + 1 + 1)
 
     def test_link_to_the_file(self) -> None:
         """A symbolic link stays, and what it names is replaced."""
@@ -377,7 +377,7 @@ class Adopts(TestOfEnding):
                 ("old", f"#old\n\n{A.upper()}\n {B} #  x\n{C}#\xfc\n".encode(), ["#old", "", A, f"{B} # x", f"{C} # \xfc"]),
                 ("nothing in a comment", f"{A} #\n#\n{B}\t# \n".encode(), [A, "#", B]), ("no end of line", A.encode(), [A]),
                 ("returns", f"{A}\r\n# x\r\n".encode(), [A, "# x"]), ("another comment", sealed(f"{A} # x").replace(b"x", b"y"), [f"{A} # y"]),
-                ("whole", sealed(A, "# x"), [A, "# x"]), ("no last line", sealed(A, B)[:130], [A, B])):
+                ("whole", sealed(A, "# x"), [A, "# x"]), ("no last line", sealed(A, B)[:2 * 65], [A, B])):
             with self.subTest(name=name):
                 self.write(ENDED, octets)
                 output = self.end("--adopt")
@@ -412,14 +412,14 @@ class OfLibrary(TestOfEnding):
     """The digests are those of what the library lists to be verified, which the daemon looks up."""
 
     def test_digests_of_the_messages_of_the_library(self) -> None:
-        # (a program that prints the SHA-256 of each message that the library lists for a sequence, in the file of its first argument)
-        asks = ("import hashlib, sys, spki; guard = spki.Guard(b'(acl)');"
-                "key = spki.ProvenKey.assume(spki.canonical(open(sys.argv[2], 'rb').read()));"
-                "asked = guard.ask(spki.Question(open(sys.argv[1], 'rb').read(), key, words=(b'files',), moment=b'\"2026-03-01_12:00:00\"'));"
-                "print(*(hashlib.sha256(signature.message).hexdigest() for signature in asked.signatures()), sep='\\n')")
+        """`program` prints the SHA-256 of each message that the library lists for the sequence in the file of its first argument."""
+        program = ("import hashlib, sys, spki; guard = spki.Guard(b'(acl)');"
+                   "key = spki.ProvenKey.assume(spki.canonical(open(sys.argv[2], 'rb').read()));"
+                   "asked = guard.ask(spki.Question(open(sys.argv[1], 'rb').read(), key, words=(b'files',), moment=b'\"2026-03-01_12:00:00\"'));"
+                   "print(*(hashlib.sha256(signature.message).hexdigest() for signature in asked.signatures()), sep='\\n')")
         self.write("key", self.run_here("key", "ann.pub")[1].encode())
         settings = {**os.environ, "SPKI_LIBRARY": built.shared(), "PYTHONPATH": os.path.join(TOP, "bindings", "python")}
-        status, output = output_of(sys.executable, "-c", asks, "second", "key", cwd=self.room, env=settings)
+        status, output = output_of(sys.executable, "-c", program, "second", "key", cwd=self.room, env=settings)
         self.assertEqual((status, output.split()), (0, self.digests))
         self.write(ENDED, sealed())
         self.end("first", "second")

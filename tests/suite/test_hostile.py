@@ -1,9 +1,10 @@
 """Runs the program under hostile conditions: each allocation, each read and each write fails in turn, texts are cut short, standard input and output
 fail, limits are tried from both sides, the stack is small, and texts need the most work. `test_one_call` does each call of the libraries by itself
-while requests for memory fail, on at most two rows of test_calls.py.
-
-`refuse.c` is compiled by `cc` and preloaded, and lets the chosen calls fail. Each part is a test. It prints the numbers of tasks, runs, refused calls
-and faults. The longest parts are tests only of `tests/run --long`, which `.ci/deep` runs."""
+while requests for memory fail, on at most two rows of test_calls.py. `refuse.c` is compiled by `cc` and preloaded, and lets the chosen calls fail.
+Each part is a test. A part is a function that yields tasks. A task is a function and its words, such as `refused_in_turn, example, ""`: it runs the
+`program`, an object of `harness.refusing`, and returns the number of runs, of refused calls, and the faults as texts. A run that `ended` has an
+`answer`: the status, the output and the errors. `ended.refused` is how many of its calls were refused, and `ended.asked` has how many it made of each
+kind. A part prints the numbers of tasks, runs, refused calls and faults. The longest are tests only of `tests/run --long`, which `.ci/deep` runs."""
 import os
 import pathlib
 import resource
@@ -39,8 +40,7 @@ VALGRIND_STEP = 9
 MOST_ASKS = 2097152
 # What one text may take: seconds, and MiB.
 MOST_SECONDS, MOST_MEMORY = 10, 256
-# The octets of a small stack.
-STACK = 256 * 1024
+STACK = 256 * 1024  # (the octets of a small stack)
 # The example on which the requests before the first read are refused too.
 WORDS_REFUSED = "no-entries.csexp"
 # How runs end: the status, the output and the errors.
@@ -61,26 +61,19 @@ FILES = {
     "no-entries.csexp": {"check": "1 no", "explain": "1 no entries", "reduce": "1 no entries"},
     "bad-date.csexp": {"check": "2 refused at BadDate", "explain": "2 refused at BadDate", "reduce": "2 refused at BadDate"},
     "delegation.sexp": {"check": "0 yes entry 1", "explain": "0 entry 1 grants",
-                        "reduce": "0 entry 1 (five (subject (public-key (test b))) (tag (*)))"},
-}
-CHAINS = {
-    "whole chain": {"explain": "0 entry 1 grants", "reduce": "0 entry 1 (five (subject (public-key (test d))) (propagate) (tag (*)))"},
-    "certificate 2: key not shown": {"explain": "1 item 3 KeyNotShown", "reduce": "1 item 3 KeyNotShown"},
-    "certificate 2: digest differs": {"explain": "1 item 3 DigestDiffers", "reduce": "1 item 3 DigestDiffers"},
-    "certificate 2: signer differs": {"explain": "1 item 3 SignerDiffers", "reduce": "1 item 3 SignerDiffers"},
-    "certificate 2: not accepted": {"explain": "1 item 3 NotAccepted", "reduce": "1 item 3 NotAccepted"},
-    "chain in another order": {"explain": "1 entry 1 item 1 NotIssuer", "reduce": "1 entry 1 item 1 NotIssuer"},
-    "entry that does not delegate": {"explain": "1 entry 1 item 1 NoDelegation", "reduce": "1 entry 1 item 1 NoDelegation"},
-    "windows: certificate from 2024-06-01_00:00:01": {"explain": "1 entry 1 item 1 NoValidity", "reduce": "1 entry 1 item 1 NoValidity"},
-    "too large": {"explain": "2 refused TooLarge", "reduce": "2 refused TooLarge"},
-}
+                        "reduce": "0 entry 1 (five (subject (public-key (test b))) (tag (*)))"}}
+CHAINS = {"whole chain": {"explain": "0 entry 1 grants", "reduce": "0 entry 1 (five (subject (public-key (test d))) (propagate) (tag (*)))"}, **{
+    name: {"explain": line, "reduce": line} for name, line in [
+        ("certificate 2: key not shown", "1 item 3 KeyNotShown"), ("certificate 2: digest differs", "1 item 3 DigestDiffers"),
+        ("certificate 2: signer differs", "1 item 3 SignerDiffers"), ("certificate 2: not accepted", "1 item 3 NotAccepted"),
+        ("chain in another order", "1 entry 1 item 1 NotIssuer"), ("entry that does not delegate", "1 entry 1 item 1 NoDelegation"),
+        ("windows: certificate from 2024-06-01_00:00:01", "1 entry 1 item 1 NoValidity"), ("too large", "2 refused TooLarge")]}}
 # Redirections of the shell, and how a run with them ends. FILE has the text of a case.
 ENDS = [
     ("< FILE > /dev/full", WRITE_FAULT), ("< FILE >&-", WRITE_FAULT), ("< FILE 1< /dev/null", WRITE_FAULT),
     ("< FILE > /dev/full 2>&-", UNSAID_FAULT), ("< FILE > /dev/full 2> /dev/full", UNSAID_FAULT), ("< / 2>&-", UNSAID_FAULT),
     ("< /", READ_FAULT), ("<&-", READ_FAULT), ("0> /dev/null", READ_FAULT), ("< / >&-", READ_FAULT), ("<&- >&-", READ_FAULT),
-    ("< /dev/null", SHORT), ("< /dev/zero", TOO_LONG),
-]
+    ("< /dev/null", SHORT), ("< /dev/zero", TOO_LONG)]
 
 
 @dataclass
@@ -97,7 +90,7 @@ class Example:
         return f"{self.command} on {self.name}"
 
 
-def end_of(line):
+def outcome_of(line):
     """How a run ends: the status, the output and the errors. `line` has the status, a space and the line of output. There are no errors."""
     status, words = line.split(" ", 1)
     return int(status), words.encode() + b"\n", b""
@@ -105,7 +98,7 @@ def end_of(line):
 
 # ---- examples
 
-def of_files():
+def file_examples():
     """Yields as examples, for each case of FILES, its commands there, the three conversions and `intersect`."""
     for name, lines in FILES.items():
         text = pathlib.Path(EXAMPLES, name).read_bytes()
@@ -113,27 +106,27 @@ def of_files():
         yield Example(name, "canonical", text, (0, canonical, b""))
         yield Example(name, "transport", text, (0, braced(canonical) + b"\n", b""))
         yield Example(name, "advanced", text, None)
-        yield Example(name, "intersect", text, end_of("2 refused intersect Shape"))
+        yield Example(name, "intersect", text, outcome_of("2 refused intersect Shape"))
         for command, line in lines.items():
-            yield Example(name, command, text, end_of(line))
+            yield Example(name, command, text, outcome_of(line))
 
 
-def of_chains():
+def chain_examples():
     """Yields the cases of chains.py as examples, and for those of CHAINS what other commands write too."""
     for name, command, text, status, answer in chains.rows():
         yield Example(name, command, text, (status, answer, b""))
         for other, line in CHAINS.get(name.removeprefix("chains:"), {}).items():
-            yield Example(name, other, text, end_of(line))
+            yield Example(name, other, text, outcome_of(line))
 
 
-def of_tables():
+def table_examples():
     """Yields the rows of the tables as examples."""
     for table in tables_here():
         for place, command, text, status, answer in rows.rows_of(table):
             yield Example(place, command, text, (status, answer, b""))
 
 
-def of_limits():
+def limit_examples():
     """Yields the rows of limits.py as examples: texts just within a limit, and just beyond it."""
     for name, command, text, status, answer in limits.rows():
         yield Example(name, command, text, (status, answer, b""))
@@ -169,14 +162,15 @@ def most_work():
         yield make.__name__, "check", make(long_chains.LENGTHS[-1]), b"yes entry 1\n"
     for shape in linear.SHAPES:
         yield shape.name, "check", shape.text(MOST_OCTETS)[1], b"no\n"
-    yield linear.large_tag_and_set.__name__, "check", linear.large_tag_and_set(1, linear.BEHIND_LARGE, linear.MEMBERS), b"no\n"
+    large_tag_and_set = linear.large_tag_and_set(entries=1, certificates=linear.BEHIND_LARGE, members=linear.MEMBERS)
+    yield linear.large_tag_and_set.__name__, "check", large_tag_and_set, b"no\n"
     for what, text, answer in long_chains.widest():
         yield what, "check", text, answer
         yield what, "explain", text, b"entry 1 "
         yield what, "reduce", text, b"entry 1 "
     for what, tag in (("(*)", check.STAR), ("a", check.string("a"))):
         for command, answer in (("check", b"no\n"), ("explain", b"entry 1 NotTheKey\n"), ("reduce", b"entry 1 (five ")):
-            yield f"ten {what} behind a large tag", command, long_chains.behind_a_large_tag(10, tag), answer
+            yield f"ten {what} behind a large tag", command, long_chains.behind_a_large_tag(more=10, tag=tag), answer
     for what, text in long_chains.large_tags():
         for command, answer in (("check", b"no\n"), ("explain", b"entry 1 NotTheKey\n")):
             yield what, command, text, answer
@@ -338,7 +332,7 @@ def run_task(function, program, *words):
 def memory_refused(behind):
     """Tasks that refuse each request for memory in turn, on examples of at most MOST_REFUSED octets. With `behind` ".." all later requests are
     refused too."""
-    for example in examples_of(of_files, of_chains, of_tables, most=MOST_REFUSED):
+    for example in examples_of(file_examples, chain_examples, table_examples, most=MOST_REFUSED):
         yield refused_in_turn, example, behind
 
 
@@ -357,12 +351,12 @@ def truncation():
             yield cut_short, command, text, range(start, min(start + 100, len(text)))
     for text in three_certificates():
         for more in (b"", b" ", b" \t\v\f\r\n"):
-            yield one_run, "whitespace behind a case", end_of("0 yes entry 1"), "run", "check", text + more
+            yield one_run, "whitespace behind a case", outcome_of("0 yes entry 1"), "run", "check", text + more
 
 
 def ends_failing():
     """Tasks in which reads and writes fail: in turn, for ever, and by what the shell redirects them to."""
-    whole = Example("first-run.csexp", "check", first_run()[0], end_of("0 yes entry 1"))
+    whole = Example("first-run.csexp", "check", first_run()[0], outcome_of("0 yes entry 1"))
     short = Example("a short text", "canonical", b"(abc def)", (0, b"(3:abc3:def)", b""))
     for example in (whole, short):
         for error, wanted in ((EIO, read_fault), (EINTR, asked_again), (0, ended_early)):
@@ -385,26 +379,26 @@ def long_answer(members, octets):
 
 def long_answers():
     """Tasks with answers that are longer than a page of memory, 4,096 octets, to files that are full, and with less memory than they are long."""
-    text, whole = long_answer(100, 1)
-    for most in (0, 4095, 4096, 4097, 12288, len(whole) - 1):
+    text, whole = long_answer(members=100, octets=1)
+    for most in (0, 4095, 4096, 4097, 3 * 4096, len(whole) - 1):
         wanted = 3, whole[:most], WRITE_FAULT[2]
         yield one_run, f"a file of at most {most} octets", wanted, "limited", "intersect", text, resource.RLIMIT_FSIZE, most
     yield one_run, "a long answer", (0, whole, b""), "run", "intersect", text
-    text, whole = long_answer(200, 1200)
+    text, whole = long_answer(members=200, octets=1200)
     yield one_run, f"an answer of {len(whole)} octets in 24 MiB", (0, whole, b""), "limited", "intersect", text, resource.RLIMIT_AS, 24 << 20
 
 
 def pipes_and_files():
     """Tasks with pipes without a reader, pipes that do not block, files that are full, and texts that come octet by octet. If `dies` is true a run
     begins with the usual effect of SIGPIPE, the signal of a pipe without a reader, which would end it: it must report a write fault even so."""
-    long = b"(" + b"3:abc" * 200000 + b")"
+    long = b"(" + b"3:abc" * 200000 + b")"  # (longer than PIPE, the octets that a pipe holds)
     whole = first_run()[0]
-    for dies in (False, True):
+    for dies in (False, True):  # (the reader leaves after 0 octets, and then after 5)
         for command in COMMANDS:
             yield one_run, f"{command} with no reader", WRITE_FAULT, "reader_gone", command, whole, 0, dies
         yield one_run, "a reader that leaves", (3, long[:5], WRITE_FAULT[2]), "reader_gone", "canonical", long, 5, dies
     for text in (*first_run(), *three_certificates()):
-        yield one_run, "one octet at a time", end_of("0 yes entry 1"), "in_packets", "check", text
+        yield one_run, "one octet at a time", outcome_of("0 yes entry 1"), "in_packets", "check", text
     for most in range(12):
         wanted = 3, b"yes entry 1\n"[:most], WRITE_FAULT[2]
         yield one_run, f"a file of at most {most} octets", wanted, "limited", "check", whole, resource.RLIMIT_FSIZE, most
@@ -414,13 +408,13 @@ def pipes_and_files():
 
 def at_limits():
     """Tasks with one run on each text at the limits."""
-    for example in examples_of(of_limits):
+    for example in examples_of(limit_examples):
         yield one_run, example, example.answer, "run", example.command, example.text
 
 
 def in_small_stack():
     """Tasks with a small stack, on the texts at the limits and those that need the most work."""
-    for example in examples_of(of_limits) + [Example(what, command, text, None) for what, command, text, _ in most_work()]:
+    for example in examples_of(limit_examples) + [Example(what, command, text, None) for what, command, text, _ in most_work()]:
         yield with_small_stack, example
 
 
@@ -438,26 +432,17 @@ def work():
 
 
 def under_valgrind():
-    """Tasks under valgrind on every VALGRIND_STEP-th example, without a refused request for memory and with some."""
-    for example in examples_of(of_files, of_chains)[::VALGRIND_STEP]:
+    """Tasks under valgrind on every VALGRIND_STEP-th example: with no request for memory refused, with the 5th, and with all from the 40th on."""
+    for example in examples_of(file_examples, chain_examples)[::VALGRIND_STEP]:
         for number in ("0", "5", "40.."):
             yield with_valgrind, example, {"memory": number}
 
 
 PARTS = {
-    "request_refused": lambda: memory_refused(""),
-    "all_requests_refused_from_one_on": lambda: memory_refused(".."),
-    "call_by_call": calls_refused,
-    "less_and_less_memory": less_memory,
-    "texts_cut_short": truncation,
-    "reads_and_writes_refused": ends_failing,
-    "pipes_and_files_that_fail": pipes_and_files,
-    "long_answers": long_answers,
-    "limits_from_both_sides": at_limits,
-    "small_stack": in_small_stack,
-    "under_valgrind": under_valgrind,
-    "most_work": work,
-}
+    "request_refused": lambda: memory_refused(behind=""), "all_requests_refused_from_one_on": lambda: memory_refused(behind=".."),
+    "call_by_call": calls_refused, "less_and_less_memory": less_memory, "texts_cut_short": truncation, "reads_and_writes_refused": ends_failing,
+    "pipes_and_files_that_fail": pipes_and_files, "long_answers": long_answers, "limits_from_both_sides": at_limits,
+    "small_stack": in_small_stack, "under_valgrind": under_valgrind, "most_work": work}
 LONGEST = ("less_and_less_memory", "small_stack", "under_valgrind", "most_work")
 
 

@@ -1,5 +1,8 @@
 """Tests what `spki-cert` does with mistakes: no file is lost, nothing is signed that was not meant, each message leads to the place, and no stream,
-signal or random word ends it by a traceback."""
+signal or random word ends it by a traceback. Most tests have a folder with the private keys `alice`, `bob` and `carol`, their public keys `alice.pub`
+and so on, the access list acl.sexp with an entry for alice, her certificate `to-bob`, and an empty `folder`. `self.cert(WORD ..)` runs `spki-cert`
+there. Its status must be `wanted`: 0 is done, 1 is no, 2 says that a file or word is refused, 3 that reading or writing failed or that a signal came,
+and 4 asks for `--yes`, since the command is probably a mistake. In Python an S-expression is octets or a list of S-expressions."""
 import base64
 import contextlib
 import datetime
@@ -33,7 +36,7 @@ def key_pair(kind="ed25519"):
 
 
 class TestWithKeys(CommandTest):
-    """A test in a folder with keys of alice, bob and carol, a list acl.sexp with an entry for alice, her certificate `to-bob`, an empty folder."""
+    """A test in the folder that the head describes. `pairs` has for each name the octets of the private and of the public key."""
 
     @classmethod
     def setUpClass(cls):
@@ -52,7 +55,7 @@ class TestWithKeys(CommandTest):
         self.sign("--propagate", "-o", "to-bob")
 
     def sign(self, *words, by="alice", to="bob.pub", tag="(packages read)", wanted=0, days=("--days", "30")):
-        """Runs `spki-cert sign`, which must end with the status `wanted`. Returns what it writes."""
+        """Runs `spki-cert sign`, with more options in `words`. It must end with the status `wanted`. Returns what it writes."""
         return self.cert("sign", "--by", by, "--to", to, "--tag", tag, *days, *words, wanted=wanted)
 
     def changes_nothing(self, *words, message="", wanted=2):
@@ -89,31 +92,32 @@ class OfWriting(TestWithKeys):
         """No file with a secret is written over, and no output has a part of one. The secrets are private keys in forms that spki-cert does not read,
         or cut off, and as words of a command also keys that it reads. The file of ended certificates is not written over either."""
         from cryptography.hazmat.primitives.serialization import Encoding, NoEncryption, PrivateFormat, pkcs12
-        # (a seed is a secret in base64. Alone in a file it is a text of one string, which `check` accepts if it does not begin with a digit)
+        # (a seed is a secret in base64. Alone in the file `wg` it is a text of one string, which `check` accepts unless it begins with a digit)
         seed = b"0"
         while seed[:1].isdigit():
             private = keys.new_private("ed25519")
             octets = private.private_bytes(Encoding.Raw, PrivateFormat.Raw, NoEncryption())
             seed = base64.b64encode(octets)
-        text = b"(private-key (ecc (curve Ed25519) (flags eddsa) (q #00#) (d #%s#)" % octets.hex().encode()
+        cut_off = b"(private-key (ecc (curve Ed25519) (flags eddsa) (q #00#) (d #%s#)" % octets.hex().encode()
         der = private.private_bytes(Encoding.DER, PrivateFormat.PKCS8, NoEncryption())
         p12 = pkcs12.serialize_key_and_certificates(b"x", private, None, None, NoEncryption())
         parts = seed.decode()[:20], octets.hex()[:20]  # (of the secret, as an output might have them; one in braces has its own base64)
-        forms = {"der": der, "p12": p12, "jwk": b'{"kty": "OKP", "d": "%s"}' % seed, "utf-16": text.decode().encode("utf-16"),
-                 "ssh2": b"---- BEGIN SSH2 ENCRYPTED PRIVATE KEY ----\n%s\n" % seed, "sexp": text, "age": b"# made\nAGE-SECRET-KEY-1" + seed,
-                 "wireguard": b"[Interface]\nPrivateKey = " + seed, "wg": seed + b"\n", "braces": b"{%s" % base64.b64encode(text)}
+        forms = {"der": der, "p12": p12, "jwk": b'{"kty": "OKP", "d": "%s"}' % seed, "utf-16": cut_off.decode().encode("utf-16"),
+                 "ssh2": b"---- BEGIN SSH2 ENCRYPTED PRIVATE KEY ----\n%s\n" % seed, "sexp": cut_off, "age": b"# made\nAGE-SECRET-KEY-1" + seed,
+                 "wireguard": b"[Interface]\nPrivateKey = " + seed, "wg": seed + b"\n", "braces": b"{%s" % base64.b64encode(cut_off)}
         for name, secret in forms.items():
             self.write(name, secret)
             for words in (("key", name), ("show", name), ("check", name), ("sign", "--by", name, "--to", "bob.pub", "--tag", TAG, "--days", "1"),
                           ("entry", "--to", "bob.pub", "--tag", TAG, "--acl", name)):
                 with self.subTest(words):
                     output = self.cert(*words, wanted=0 if words == ("check", "wg") else 2)
-                    for shown in (*parts, "\\x", base64.b64encode(text).decode()[-20:]):
-                        self.assertNotIn(shown, output)
+                    for secret_part in (*parts, "\\x", base64.b64encode(cut_off).decode()[-20:]):  # (`\x..` is an octet of a binary file)
+                        self.assertNotIn(secret_part, output)
             self.changes_nothing("key", "bob.pub", "--force", "-o", name, message="is not written over")
             self.check_not_shown(secret.decode(errors="surrogateescape").strip("\0\n"), *parts)
-        for name, (whole, _) in self.pairs.items():
-            self.check_not_shown(whole.decode(), *whole.decode().split("\n")[1:-2])
+        for private_pem, _ in self.pairs.values():
+            _, *lines, _, _ = private_pem.decode().split("\n")  # (without the lines BEGIN and END, and what is behind the last line feed)
+            self.check_not_shown(private_pem.decode(), *lines)
         self.cert("end", "--ended", "ended")
         self.changes_nothing("key", "bob.pub", "--force", "-o", "ended", message="the file of ended certificates is there already")
 
@@ -163,7 +167,7 @@ class OfWriting(TestWithKeys):
         """The file of a list keeps its mode and owner. An entry that gives nothing new needs `--yes`. A list that is read-only is not changed."""
         adds = ("entry", "--to", "bob.pub", "--tag", "(packages read)", "--acl", "acl.sexp")
         os.chmod(self.at("acl.sexp"), 0o640)
-        with contextlib.suppress(PermissionError):
+        with contextlib.suppress(PermissionError):  # (only root may give it another owner)
             os.chown(self.at("acl.sexp"), 12345, 12345)
         before = os.stat(self.at("acl.sexp"))
         self.assertEqual(self.cert(*adds), "entries added: 1\n")
@@ -268,7 +272,7 @@ class OfArguments(TestWithKeys):
     def test_no_option_is_abbreviated(self):
         for name, options in arguments.commands_with_options().items():
             for option in (option for option in options if option.startswith("--")):
-                for end in range(3, len(option)):
+                for end in range(len("--x"), len(option)):
                     if option[:end] not in options:
                         self.assertIn("no such option", self.cert(name, option[:end], "x", wanted=2))
         self.assertIn("is `--named` meant?", self.sign("--name", "x", "-o", "c", wanted=2))
@@ -367,8 +371,8 @@ class OfChains(TestWithKeys):
         return [b"sequence", certificate, signature]
 
     def test_the_search_is_bounded(self):
-        """The search ignores what a key issues for itself, so it soon finds the only chain: `to-bob`, without a comment, and bob's certificate for
-        carol, with the comment 0. Among 40 keys that each issue for all of them the search ends when no steps are left."""
+        """The search ignores what a key issues for itself, so it finds the only chain in under 100 of 20,000 steps: `to-bob`, without a comment, and
+        bob's certificate for carol, with the comment 0. Among 40 keys that each issue for all of them the search ends when no steps are left."""
         holder = keys.read_public(self.pairs["carol"][1], lambda: b"")
         entries = certificates.entries_of(value_in(octets_in(self.at("acl.sexp"))).value)
         signed = [each for sequence in self.sequences(12) for each in certificates.certificates_in(sequence)]
@@ -377,8 +381,8 @@ class OfChains(TestWithKeys):
         self.assertEqual([[each.terms.comment for each in chain] for chain in chains], [["", "0"]])
         self.assertLess(steps.most - steps.left, 100)
         net = [[b"public-key", [b"test", b"%d" % number]] for number in range(40)]
-        signed = [certificates.Signed(certificates.terms_of([b"cert", [b"issuer", issuer], [b"subject", subject], [b"tag", [b"*"]]]), b"", 1)
-                  for issuer in net for subject in net]
+        terms = [certificates.terms_of([b"cert", [b"issuer", issuer], [b"subject", subject], [b"tag", [b"*"]]]) for issuer in net for subject in net]
+        signed = [certificates.Signed(each, signature=b"", number=1) for each in terms]
         entry = certificates.terms_of([b"entry", net[0], [b"tag", [b"*"]]])
         steps = certificates.Steps()
         self.assertEqual(list(certificates.chains([entry], signed, certificates.Keys(), holder, steps)), [])
@@ -630,6 +634,7 @@ class OfSignals(TestWithKeys):
         """A signal that comes while the file is written, at each of three calls, ends the command once the file is whole and in its place."""
         for call in ("fsync", "fchmod", "link"):
             def before(call=call, real=getattr(os, call)):
+                """In the child, has this function of `os` send SIGTERM to the process before it does its work."""
                 def signal_and_call(*words):
                     os.kill(os.getpid(), signal.SIGTERM)
                     return real(*words)
@@ -725,7 +730,8 @@ class OfRandomWords(TestWithKeys):
                 self.check_run(words, done.returncode, done.stderr.decode(errors="replace"), {**before, **wild})
 
     def check_run(self, words, status, errors, before):
-        """A command must have ended without a traceback, a changed input, a lost key or a half file. Restores files of `before`, removes others."""
+        """A command must have ended with a status of the manual, and without a traceback, a changed input, a lost key or a half file. `before` has
+        the octets of each file by its name: restores these files, and removes others."""
         after, may_change = self.contents(), {value for option, value in zip(words, words[1:]) if option in self.OUTPUTS}
         if "link" in may_change:
             may_change.add("acl.sexp")
@@ -738,8 +744,8 @@ class OfRandomWords(TestWithKeys):
         self.assertIn(status, range(5), errors)
         self.assertNotIn("Traceback", errors)
         self.assertNotIn("a fault of spki-cert", errors)
-        is_allowed = "--force" in words or words[0] == "entry"
-        self.assertTrue(not changed or changed <= may_change and is_allowed, f"{changed} {errors}")
+        may_write_over = "--force" in words or words[0] == "entry"
+        self.assertTrue(not changed or changed <= may_change and may_write_over, f"{changed} {errors}")
         inputs = {word for option, word in zip(words, words[1:]) if option in self.INPUTS.get(words[0], ("--by", "--to", "--chain"))}
         # (no changed file may be an input: also not by the link to acl.sexp, or in `.`, the whole folder)
         names_of_changed = {".", "link", *changed} if "acl.sexp" in changed else {".", *changed}
@@ -747,7 +753,7 @@ class OfRandomWords(TestWithKeys):
         self.assertFalse({"alice", "bob", "carol", "alice.pub", "bob.pub", "carol.pub", "keys"} & changed, errors)
         for name, octets in written.items():
             self.assertFalse(name.startswith(".spki"), name)
-            if octets.startswith(ending.HEAD):
+            if octets.startswith(ending.HEAD):  # (a file of ended certificates, which is whole if it has this last line)
                 self.assertRegex(octets, rb"\nend \d+ [0-9a-f]{64}\n\Z")
                 continue
             # (the keys of several files are several values)

@@ -1,7 +1,8 @@
 """Tries the example of nginx and spki-authd, as it is set up, and among the ordinary lines of other sites. Lists are changed under load, clients are
-slow or pass limits, and the daemon is killed, hangs and is started again. test_attacks.py has the attacks.
-
-examples/nginx/run.sh, which shows the example, is run too, and its lines are compared."""
+slow or pass limits, and the daemon is killed, hangs and is started again. test_attacks.py has the attacks. examples/nginx/run.sh, which shows the
+example, is run too, and its lines are compared. By the list of the site Ann may read and write below /web/. Ben may read there by a certificate of
+Ann, and Eve nothing. `self.site.status(WHO, METHOD, PATH)` is the status of the answer to a request of WHO: 2xx is a grant, 401 and 403 are denials,
+and 5xx says that nothing has decided."""
 import contextlib
 import json
 import os
@@ -56,7 +57,7 @@ class Attacks(OfSite):
         self.assertEqual(self.site.status("ann", "GET", "/web/%69ndex.html"), 200)
 
     def test_foreign_certificate(self) -> None:
-        """A client that has another key than that of the certificate that it shows gets no connection."""
+        """A client that shows Ann's certificate and has only Eve's key gets no connection: `foreign.go` prints a fault of TLS, and no answer."""
         files = map(self.site.at, ("keys/ann.crt", "keys/eve.crt", "keys/eve"))
         words = ("go", "run", os.path.join(TESTS, "programs", "foreign.go"), f"127.0.0.1:{self.site.port}", *files)
         before = self.count_lines()
@@ -72,10 +73,8 @@ SORRY, ERRORS = "/web/out/main.js", "500 502 503 504"
 CACHE = "proxy_cache_path {room}/tmp/cache keys_zone=site:1m; proxy_cache site; proxy_cache_valid any 1h; "
 # Ordinary lines of a site, by what they do: those of `http`, and those of the example's `server`.
 SITES: list[tuple[str, str, str]] = [
-    ("no more lines", "", ""),
-    ("error pages", f"error_page {ERRORS} = {SORRY};", ""),
-    ("error pages with 200", f"error_page {ERRORS} =200 {SORRY};", ""),
-    ("error pages with their status", f"error_page {ERRORS} {SORRY};", ""),
+    ("no more lines", "", ""), ("error pages", f"error_page {ERRORS} = {SORRY};", ""),
+    ("error pages with 200", f"error_page {ERRORS} =200 {SORRY};", ""), ("error pages with their status", f"error_page {ERRORS} {SORRY};", ""),
     ("error pages in the server", "", f"error_page {ERRORS} = {SORRY};"),
     ("error pages of denials", f"proxy_intercept_errors on; error_page 401 403 = {SORRY};", ""),
     ("error pages of denials in the server", "proxy_intercept_errors on;", f"error_page 400 401 403 =200 {SORRY};"),
@@ -89,13 +88,11 @@ SITES: list[tuple[str, str, str]] = [
     ("a cache", CACHE + "proxy_ignore_headers Cache-Control Expires Set-Cookie Vary;", ""),
     ("a cache by host", CACHE + "proxy_cache_key $host; proxy_ignore_headers Cache-Control Expires Set-Cookie Vary X-Accel-Expires;", ""),
     ("a cache that outlives", CACHE + "proxy_ignore_headers Cache-Control; proxy_cache_use_stale error timeout http_500 http_503 http_403;", ""),
-    ("files of what was fetched", "proxy_store {room}/tmp/stored;", ""),
-    ("satisfy any", "satisfy any; allow all;", ""),
+    ("files of what was fetched", "proxy_store {room}/tmp/stored;", ""), ("satisfy any", "satisfy any; allow all;", ""),
     ("satisfy any for this machine", "satisfy any; allow 127.0.0.1; deny all;", ""),
     ("retries", f"proxy_next_upstream error timeout http_403 http_500 http_503 non_idempotent; error_page {ERRORS} = {SORRY};", ""),
     ("another method of asking", "proxy_method POST; proxy_pass_request_headers on;", ""),
-    ("lists of folders", "autoindex on; index index.html;", ""),
-    ("all methods of WebDAV", "dav_methods PUT DELETE MKCOL COPY MOVE;", ""),
+    ("lists of folders", "autoindex on; index index.html;", ""), ("all methods of WebDAV", "dav_methods PUT DELETE MKCOL COPY MOVE;", ""),
     ("files by their kind", "", "location ~* \\.(html|js|txt)$ { expires 1d; }"),
     ("a folder of its own", "", "location /secret/ { root {room}/files; }"),
     ("a folder inside", "", "location /web/ { location ~ html { expires 1d; } }"),
@@ -103,8 +100,7 @@ SITES: list[tuple[str, str, str]] = [
     ("an if", "", "location /secret/ { if ($request_method = GET) { expires 1d; } }"),
     ("a folder that does not ask", "", "location /secret/ { auth_request off; }"),
     ("a folder where any will do", "", "location /secret/ { satisfy any; allow all; }"),
-    ("open files that are kept", "open_file_cache max=100; open_file_cache_errors on; open_file_cache_valid 1h;", ""),
-]
+    ("open files that are kept", "open_file_cache max=100; open_file_cache_errors on; open_file_cache_valid 1h;", "")]
 # Lines of files.conf that keep the lines of other sites without effect: the first lock. Each row breaks it: a name, lines of another site, and a
 # pattern of the lock's own lines, which are taken away. The second lock is the folder of the files, which nginx has only after a yes of the daemon.
 LOCKS: list[tuple[str, str, str]] = [
@@ -197,7 +193,7 @@ class Numbers(unittest.TestCase):
 
     def test_idle_connections(self) -> None:
         """The idle connections of 40 workers leave a quarter of the 1,024 places of a daemon to others."""
-        self.assertLessEqual(40 * self.number(r"keepalive (\d+);"), 768)
+        self.assertLessEqual(40 * self.number(r"keepalive (\d+);"), 1024 * 3 // 4)
 
     def test_rates(self) -> None:
         """Requests of an address that show or that leave certificates, each of 18 ms, take at most 0.1 of a core, and others, of 0.1 ms, 0.01."""
@@ -305,7 +301,7 @@ class Limits(OfSite):
         self.check_ann()
 
     def test_rate_of_certificates(self) -> None:
-        """A client that shows certificates has a lower rate. Past it the daemon is not asked."""
+        """A client that shows certificates, here Ben one of Ann, has a lower rate. Past it the daemon is not asked."""
         field = f"Authorization: SPKI {in_braces(sequence(self.site, 'ann', 'ben', READ))}"
         request, count = f"GET /web/index.html HTTP/1.1\r\nHost: localhost\r\n{field}\r\n", 80  # (a burst of 20, and 5 a second, pass)
         requests = f"{request}\r\n".encode() * (count - 1) + f"{request}Connection: close\r\n\r\n".encode()

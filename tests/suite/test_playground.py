@@ -1,8 +1,10 @@
 """Tests apps/playground over HTTP, and in Chromium. Each example's answer must be that of the program on the case that the page shows for it,
-whichever of library and program decides. A mistake must be found at its place. Questions from another origin, with another host or without the
-token, and too long bodies are refused. Text stays text in every box. A hostile text is stopped, and the page goes on. In Chromium also: typing, the
-keyboard alone, a link, 360 pixels, and that nothing of an answer stays when it is not the answer to what is typed. The page starts where `tests/run
---quick` has left the program, and says this command where nothing is built. `bench/playground.py` measures its times by `InChromium`."""
+whichever of library and program decides. A mistake must be found at its place. Questions from another origin, with another host or without the token,
+and too long bodies are refused. Text stays text in every box. A hostile text is stopped, and the page goes on. In Chromium also: typing, the keyboard
+alone, a link, 360 pixels, and that nothing of an answer stays when it is not the answer to what is typed. The page starts where `tests/run --quick`
+has left the program, and says this command where nothing is built. `bench/playground.py` measures its times by `InChromium`. An answer is an object
+of JSON: `line` is what the program's command `check` says, `reasons` are the lines of `explain`, and `faults` the mistakes by the box they are in,
+each with its `places` in the text. STORY is the question of the first example, which is granted: Carol requests a right."""
 import contextlib
 import http.client
 import io
@@ -155,8 +157,8 @@ class Answers(OfPage):
             answer = self.page.ask("question", **question)
             _, acl, accepted, sequence, key, request, at, *policy = read(run(built.program(), "canonical", answer["case"].encode())[1])
             typed = {name: read(run(built.program(), "canonical", question[name].encode())[1]) for name in ("acl", "sequence", "key")}
-            shown = [item for item in sequence if item[0] != b"signature" or item in typed["sequence"]]
-            self.assertEqual((acl, shown, key[1], request[1], at[1]),
+            without_added = [item for item in sequence if item[0] != b"signature" or item in typed["sequence"]]
+            self.assertEqual((acl, without_added, key[1], request[1], at[1]),
                              (typed["acl"], typed["sequence"], typed["key"], [*map(str.encode, question["request"])], question["at"].encode()))
             self.assertEqual((accepted[0], policy), (b"accepted", [[b"policy", b"strict"]] if question["strict"] else []))
 
@@ -200,7 +202,7 @@ class Answers(OfPage):
         units = text.encode("utf-16-le")[2 * place["begin"]:2 * place["end"]]
         self.assertEqual(units.decode("utf-16-le"), "(taag")
 
-    def test_a_request_and_a_moment_that_are_refused(self) -> None:
+    def test_what_a_refused_request_or_moment_gets(self) -> None:
         changes: list[tuple[dict[str, Any], str]] = [
             ({"request": []}, "refused request EmptyList"), ({"request": ["*", "a"]}, "refused request StarInRequest"),
             ({"at": "2026-13-01_00:00:00"}, "refused at BadDate")]
@@ -209,7 +211,7 @@ class Answers(OfPage):
             self.assertEqual(answer["line"], line)
             self.assertTrue(next(iter(answer["faults"].values()))["places"][0]["why"])
 
-    def test_a_moment_that_is_missing(self) -> None:
+    def test_the_remark_on_a_missing_or_malformed_moment(self) -> None:
         for moment, says in (("", "the moment is missing"), ("tomorrow", "this is no moment")):
             why = self.page.ask("question", **{**STORY, "at": moment})["faults"]["at"]["places"][0]["why"]
             self.assertEqual(why, f"{says}; choose a date and a time of day, in UTC")
@@ -251,8 +253,8 @@ class Answers(OfPage):
         case = text_of("examples/guide/granted.sexp").replace("(not-after", "(not-afer", 1)
         self.assertEqual(self.page.ask("case", text=case)["shown"], "refused certificate 1 Shape")
 
-    def test_a_question_that_is_too_long(self) -> None:
-        self.assertEqual(self.page.ask("question", **{**STORY, "request": ["x" * 65_537]})["line"], "refused question TooLong")
+    def test_a_question_over_65_536_octets_is_refused(self) -> None:
+        self.assertEqual(self.page.ask("question", **{**STORY, "request": ["x" * (65_536 + 1)]})["line"], "refused question TooLong")
 
     def test_the_times_of_an_answer(self) -> None:
         """`times` gives the spans of time in which the answer is the same, and where each begins and ends."""
@@ -270,7 +272,7 @@ class Answers(OfPage):
             self.assertEqual(self.page.ask("times", **{**STORY, "acl": text})["spans"], [{"answer": "no", "begin": None}])
 
     def test_what_tags_contain(self) -> None:
-        """`tags` says whether each of two tags and their intersection contain a request. A mistake in a tag has its place."""
+        """`tags` says whether each of two tags and their intersection, `both`, contain a request. A mistake in a tag has its place."""
         answer = self.page.ask("tags", first="(packages (* set read write))", second="(packages read (* prefix /a/))", request=["packages", "write"])
         self.assertEqual((answer["first"]["contains"], answer["second"]["contains"], answer["both"]["contains"]), (True, False, False))
         self.assertEqual(answer["both"]["text"], "(packages read (* prefix /a/))")
@@ -334,7 +336,7 @@ class Answers(OfPage):
 
     def test_counts_of_the_picture(self) -> None:
         """The picture says how many entries the list has, and how many certificates of a long chain are left out: it has at most 61 steps, 5 of them
-        without certificates. A certificate for another key than before is two steps, and one for the same key is one: the last row."""
+        without certificates. A certificate for another key than before is two steps, and one for the same key is one, as in the last chain."""
         key = STORY["key"]
         self.assertEqual([self.page.ask("question", **{**STORY, "acl": acl})["chain"]["steps"][0]["whole"] for acl in (
             f"(acl (entry {key} (tag x)))", f"(acl (entry {key} (tag x)) (entry {key} (tag x)))")], ["1 entry", "2 entries"])
@@ -426,6 +428,7 @@ class Requests(OfPage):
             self.assertEqual(self.page.send("GET", self.page.address.path, Host=host)[0], 421, host)
 
     def test_another_token_is_refused(self) -> None:
+        """A path must begin with the page's, `/TOKEN/`. The last two are this one with a letter less, and without the `/` behind it."""
         for path in ("/", "/question", "//", "/x/", self.page.address.path[:-2] + "/", self.page.address.path[:-1]):
             self.assertEqual(self.page.send("GET", path)[0], 403, path)
             self.assertEqual(self.post(path), 403, path)
@@ -473,7 +476,7 @@ class Faults(unittest.TestCase):
         module = loaded(os.path.join(FOLDER, "server.py"))
         self.server = module.Server(port=0, workers=mock.Mock(), jobs={"question": None}, start=b"{}")
         self.addCleanup(self.server.server_close)
-        thread = threading.Thread(target=self.server.serve_forever, args=(0.01,))
+        thread = threading.Thread(target=self.server.serve_forever, args=(0.01,))  # (the seconds until it sees `shutdown`)
         thread.start()
         self.addCleanup(thread.join)
         self.addCleanup(self.server.shutdown)
@@ -498,8 +501,9 @@ class Faults(unittest.TestCase):
                 first, printed = self.ask(error)
                 self.assertEqual((first, printed.count("Traceback"), message in printed), (line, int(bool(message)), True), printed)
 
-    def test_a_thread_that_does_not_start_keeps_no_place(self) -> None:
-        """If the thread for a connection cannot start, the connection is closed. Its place, the only one here, is free for the next one."""
+    def test_a_thread_that_does_not_start_uses_up_no_connection(self) -> None:
+        """If the thread for a connection cannot start, the connection is closed. The next one is served, though the server may have only one at
+        once."""
         self.server.room = threading.BoundedSemaphore(1)
         with mock.patch.object(threading.Thread, "start", side_effect=RuntimeError("can't start new thread")):
             first, printed = self.ask({})
@@ -593,7 +597,7 @@ class InChromium(OfPage):
         self.until("return document.getElementById('kind').textContent === 'Yes' && !document.querySelector('[data-box=acl] mark')")
 
     def test_text_stays_text_in_every_box(self) -> None:
-        """What is put into a box makes no element of the page, and no script of it runs."""
+        """What is put into a box becomes no element of the page, and no script in it runs: it would set `attacked`."""
         quoted = MARKUP.replace('"', '\\"')
         for tab, name, text in [
                 *(("question", box, MARKUP) for box in (*BOXES, "request")), ("question", "labels", f"{MARKUP} (public-key (test carol))"),
@@ -608,15 +612,15 @@ class InChromium(OfPage):
                 self.paste(name, text)
                 # (time for the page to show the answer)
                 time.sleep(0.25)
-                marked = "document.querySelectorAll('img, script:not([src]), [onerror]').length"
-                self.assertEqual(self.browser.execute_script(f"return [{marked}, typeof attacked]"), [0, "undefined"])
+                elements = "document.querySelectorAll('img, script:not([src]), [onerror]').length"
+                self.assertEqual(self.browser.execute_script(f"return [{elements}, typeof attacked]"), [0, "undefined"])
 
     def test_by_the_keyboard_alone(self) -> None:
         """The tab key reaches all that can be used. A request is typed, a word a line. Arrow keys open another tab."""
         from selenium.webdriver.common.action_chains import ActionChains
         from selenium.webdriver.common.keys import Keys
         reached: list[str] = []
-        while "slider" not in reached and len(reached) < 60:
+        while "slider" not in reached and len(reached) < 60:  # (the page has fewer elements that can be used)
             self.press(Keys.TAB)
             reached.append(self.focused())
         wanted = ["Skip to the answer", "tab-question", "example", "link", "acl", "sequence", "all", "key", "request", "at", "now", "slider"]
@@ -714,6 +718,7 @@ class InChromium(OfPage):
         self.check_nothing_left()
 
     def test_an_answer_that_was_stopped(self) -> None:
+        """Of an answer without a decision the page shows the notice, and nothing of the earlier answer, a refusal."""
         self.paste("acl", STORY["acl"].replace("(propagate)", "(propagated)"))
         self.until("return document.getElementById('kind').textContent === 'Refused'")
         self.replace_answers("question", "Promise.resolve(new Response('{\"labelFaults\": [], \"notice\": \"It took too long.\"}'))")
@@ -744,6 +749,7 @@ class InChromium(OfPage):
         self.until("return document.getElementById('kind').textContent === 'Yes' && !document.querySelector('main > :not(.wide) .old, .verdict.old')")
 
     def test_a_server_that_has_ended(self) -> None:
+        """Each tab says that the server does not answer, and shows nothing of an earlier answer."""
         page = Page(self.engine, self.seconds)
         self.addCleanup(page.end)
         self.browser.get(page.address.geturl())
@@ -782,7 +788,7 @@ class Starting(built.OfProgram):
                 self.addCleanup(started.kill)
                 lines = [started.stdout.readline() for _ in range(2)] if started.stdout else []
                 started.terminate()
-            self.assertEqual((lines[0][:17], lines[1]), ("http://127.0.0.1:", "spki, compiled without proofs, decides; ctrl-c ends the page\n"))
+            self.assertRegex("".join(lines), r"^http://127\.0\.0\.1:.*\nspki, compiled without proofs, decides; ctrl-c ends the page\n$")
 
     def test_a_port_that_is_not_free(self) -> None:
         with socket.create_server(("127.0.0.1", 0)) as other:

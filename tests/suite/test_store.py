@@ -1,5 +1,9 @@
 """Tests `spki-store` and `spki-authd` with a list in PostgreSQL, on a server in a temporary folder. While another client changes the store, 1,500
-questions are asked, 20,000 among the long tests. Only these ask daemons at replicas, while the primary is killed and a replica lags."""
+questions are asked, 20,000 in a long run. Only a long run asks daemons at replicas, while the primary is killed and a replica lags. A store has
+tables: `entries`, the `ended` certificates, `changes` (the log), `imports`, a `heartbeat`, and `chains`, the certificates that clients leave.
+`Store.rows(STATEMENT, VALUE ..)` runs a statement in which `{entries}` is that table, and returns its rows. `self.spki_store(STATUS, WORD ..)` runs
+the command, which must end with this status: 0 is done, 1 something wrong or missing, 2 a refusal, 3 a fault of the database or a file. A daemon
+answers a request with 200 to grant it, 401 or 403 to deny it, and 503 if the state of its store is stale."""
 import argparse
 import contextlib
 import hashlib
@@ -39,9 +43,9 @@ STORE = os.path.join(TOP, "apps", "spki-store", "spki-store")
 DRIVER = "/usr/share/gocode/src/github.com/lib/pq/conn.go"
 WITH_DRIVER = ("-modfile=postgres.mod", "-tags", "spki_postgres")
 QUESTIONS = 20_000 if built.IS_LONG else 1_500
-# An entry for a key, and one that delegates, for a name that begins with a hash of zeros.
-A = b"(5:entry(10:public-key(4:test1:a))(3:tag(1:*)))"
-ZEROS = b"(5:entry(4:name(4:hash6:sha25632:" + bytes(32) + b")3:bob)(9:propagate)(3:tag(1:a1:b)))"
+# An entry for the key `(test a)`, and one that delegates, for a name that begins with a hash of zeros.
+ENTRY = b"(5:entry(10:public-key(4:test1:a))(3:tag(1:*)))"
+ENTRY_OF_ZEROS = b"(5:entry(4:name(4:hash6:sha25632:" + bytes(32) + b")3:bob)(9:propagate)(3:tag(1:a1:b)))"
 
 
 def key_entry(name: bytes, tag: bytes = b"(1:*)") -> bytes:
@@ -98,7 +102,7 @@ class Command(OfStore):
 
     def test_commands_one_after_another(self) -> None:
         """Entries are imported, added, removed, compared, checked, listed in the log and exported."""
-        path = self.file(b"(acl (entry (public-key (test a)) (tag (*)))" + ZEROS.replace(b"(5:", b" (5:", 1) + b")", "list.sexp")
+        path = self.file(b"(acl (entry (public-key (test a)) (tag (*)))" + ENTRY_OF_ZEROS.replace(b"(5:", b" (5:", 1) + b")", "list.sexp")
         self.assertEqual(self.spki_store(0, "import", path), "entries added: 2\n")
         self.assertIn("imported before", self.spki_store(2, "import", path))
         self.assertEqual(self.spki_store(0, "diff", path), "entries that differ: 0\n")
@@ -118,7 +122,7 @@ class Command(OfStore):
         self.spki_store(0, "check")
         to = os.path.join(self.room, "exported")
         self.spki_store(0, "export", to)
-        self.assertEqual(pathlib.Path(to).read_bytes(), b"(3:acl" + ZEROS + key_entry(b"b", b"(8:packages4:read)") + b")")
+        self.assertEqual(pathlib.Path(to).read_bytes(), b"(3:acl" + ENTRY_OF_ZEROS + key_entry(b"b", b"(8:packages4:read)") + b")")
         self.assertIn("not written over", self.spki_store(2, "export", to))
 
     def test_wrong_arguments_change_nothing(self) -> None:
@@ -126,7 +130,7 @@ class Command(OfStore):
         A server that only PGHOST names is found."""
         for text in (b"(entry (public-key (test a)))", b"(entry (public-key (test a)) (tag (*))) x", b"", b"(acl)", b"(entry (tag (*)))"):
             self.spki_store(2, "add", self.file(text))
-        for text in (b"(3:acl" + A + b"(5:entry))", b"(3:acl(7:version1:1)" + A + b")"):
+        for text in (b"(3:acl" + ENTRY + b"(5:entry))", b"(3:acl(7:version1:1)" + ENTRY + b")"):
             self.spki_store(2, "import", self.file(text))
         self.spki_store(2, "end", "00")
         self.spki_store(2, "end", "00" * 32, "--remark", "\udcff")
@@ -161,7 +165,7 @@ class Command(OfStore):
         path, stopping = self.file(b"(3:acl" + b"".join(wanted) + b")"), Stopping(self.server.address, self.schema)
         self.addCleanup(stopping.close)
         with self.assertRaises(ZeroDivisionError):
-            transfer.import_list(stopping, path, False)
+            transfer.import_list(stopping, path, is_shown=False)
         (count,), = self.store.rows("SELECT count(*) FROM {entries}")
         self.assertEqual(count, 2 * transfer.MOST_AT_ONCE)
         self.assertEqual(self.spki_store(0, "import", path), f"entries added: {len(wanted) - count}, and {count} before\n")
@@ -171,15 +175,15 @@ class Command(OfStore):
 
     def test_two_imports_at_once(self) -> None:
         """An import adds nothing if another import of the same list ends meanwhile: here just before the first one adds its entries."""
-        path = self.file(b"(3:acl" + A + b")")
+        path = self.file(b"(3:acl" + ENTRY + b")")
         with mock.patch.object(self.store, "add_many", lambda _: self.spki_store(0, "import", path)), self.assertRaises(texts.Wrong):
-            transfer.import_list(self.store, path, False)
-        self.assertEqual([row.text for row in self.store.all()], [A])
+            transfer.import_list(self.store, path, is_shown=False)
+        self.assertEqual([row.text for row in self.store.all()], [ENTRY])
 
     def rows_of_older_store(self) -> tuple[list[bytes], list[tuple[int, bytes, bytes]]]:
         """Entries, one of them twice, and the rows that the table of `examples/database` in version 0.1.0 had for them: a number, a principal and a
         text each. The numbers have gaps."""
-        wanted = [key_entry(b"a\0\n'", b"(8:packages4:read)"), ZEROS, A, key_entry(bytes(range(256))), A]
+        wanted = [key_entry(b"a\0\n'", b"(8:packages4:read)"), ENTRY_OF_ZEROS, ENTRY, key_entry(bytes(range(256))), ENTRY]
         return wanted, [(2 * place + 1, texts.principal_of(text), text) for place, text in enumerate(wanted)]
 
     def check_entries(self, wanted: list[bytes]) -> None:
@@ -195,7 +199,7 @@ class Command(OfStore):
         with contextlib.closing(sqlite3.connect(old)) as connection, connection:
             connection.execute("PRAGMA journal_mode = WAL")
             connection.execute("CREATE TABLE entries (number INTEGER PRIMARY KEY AUTOINCREMENT, principal BLOB NOT NULL, text BLOB NOT NULL)")
-            connection.executemany("INSERT INTO entries VALUES (?, ?, ?)", reversed(rows))
+            connection.executemany("INSERT INTO entries VALUES (?, ?, ?)", reversed(rows))  # (the numbers say the order)
         command, = re.findall(r"^    (python3 -c .*) OLD > LIST$", text_of("apps/spki-store/README.md"), re.MULTILINE)
         subprocess.run(["sh", "-c", f'{command} "$0" > "$1"', old, exported], check=True)
         self.assertEqual(self.spki_store(0, "import", exported), f"entries added: {len(wanted)}\n")
@@ -210,6 +214,7 @@ class Command(OfStore):
             for text in (f"CREATE SCHEMA {old}", f"SET LOCAL search_path TO {old}",
                          "CREATE TABLE entries (number bigserial PRIMARY KEY, principal bytea NOT NULL, text bytea NOT NULL)"):
                 self.store.connection.execute(text.encode())
+            # (reversed, since the numbers say the order)
             self.store.connection.cursor().executemany("INSERT INTO entries VALUES (%s, %s, %s)", list(reversed(rows)))
             self.store.connection.execute(statement.replace("spki.", f"{self.schema}.").encode())
         self.check_entries(wanted)
@@ -243,19 +248,19 @@ class Schema(OfStore):
         not one list in canonical form that begins with `entry` and a principal."""
         key = b"(10:public-key(4:test1:a))"
         hinted = b"(5:entry(4:hash6:sha256[1:x]32:" + b"h" * 32 + b")(3:tag(1:*)))"
-        for text, wanted in {A: hashlib.sha256(key).digest(), ZEROS: bytes(32), hinted: b"h" * 32,
+        for text, wanted in {ENTRY: hashlib.sha256(key).digest(), ENTRY_OF_ZEROS: bytes(32), hinted: b"h" * 32,
                              b"(5:entry(4:name" + key + b"1:n)(3:tag(1:*)))": hashlib.sha256(key).digest(),
                              b"(5:entry(4:hash6:sha51264:" + b"(" * 64 + b")(3:tag(1:*)))": b"(" * 64}.items():
             number = self.store.add(text)
             self.assertEqual(self.store.rows("SELECT principal FROM {entries} WHERE number = %s", number), [(wanted,)])
             self.assertEqual(texts.principal_of(text), wanted)
-        for bad in (A + A, A[:-1], A + b")", b"", b"x", b"(3:tag(1:*))", A.replace(b"1:a", b"9:a"), A.replace(b"1:a", b"a"), b" " + A,
-                    A.replace(b"10:public-key", b"4:mask"), A.replace(b"1:a", b"99999999999:a"), ZEROS.replace(b"32:", b"31:", 1),
+        for bad in (ENTRY + ENTRY, ENTRY[:-1], ENTRY + b")", b" " + ENTRY, b"", b"x", b"(3:tag(1:*))", ENTRY.replace(b"10:public-key", b"4:mask"),
+                    *(ENTRY.replace(b"1:a", octets) for octets in (b"9:a", b"a", b"99999999999:a")), ENTRY_OF_ZEROS.replace(b"32:", b"31:", 1),
                     b"(5:entry(4:hash6:sha2564:abcd)(3:tag(1:*)))", b"(5:entry(4:hash6:sha256)(3:tag(1:*)))"):
             self.check_refused(psycopg.Error, "INSERT INTO {entries} (text) VALUES (%s)", bad)
 
     def test_statements_in_values(self) -> None:
-        """Text that looks like a statement of SQL is a value everywhere."""
+        """Text that looks like a statement of SQL is only a value: in a tag, in a remark, and as a principal that is looked for."""
         hostile = b"'); DROP SCHEMA public CASCADE; --"
         entry = key_entry(b"a", b"(%d:%s)" % (len(hostile), hostile))
         number = self.store.add(entry)
@@ -267,12 +272,12 @@ class Schema(OfStore):
 
     def test_row_that_is_no_entry(self) -> None:
         """`check` finds an entry that the constraints of the database let pass: here one without its tag."""
-        self.store.rows("INSERT INTO {entries} (text) VALUES (%s), (%s)", A, A.replace(b"(3:tag(1:*))", b""))
+        self.store.rows("INSERT INTO {entries} (text) VALUES (%s), (%s)", ENTRY, ENTRY.replace(b"(3:tag(1:*))", b""))
         self.assertEqual(self.spki_store(1, "check").splitlines()[-1], "entries checked: 2, wrong 1")
 
     def test_what_readers_and_writers_may_do(self) -> None:
         """A reader cannot write or see who changed what. A writer adds, removes and ends, but cannot change a row or the log, nor can the owner."""
-        self.store.add(A)
+        self.store.add(ENTRY)
         no_privilege = psycopg.errors.InsufficientPrivilege
         for role in ("reader", "writer"):
             for text in ("UPDATE {entries} SET text = text", "TRUNCATE {entries}", "UPDATE {changes} SET who = ''", "DELETE FROM {changes}",
@@ -288,7 +293,7 @@ class Schema(OfStore):
             self.check_refused(no_privilege, text)
         with self.store.connection.transaction():
             self.store.connection.execute(f"SET LOCAL ROLE {self.schema}_writer")
-            number = self.store.add(A)
+            number = self.store.add(ENTRY)
             self.assertTrue(self.store.remove(number) and self.store.end(bytes(32), "") and self.store.beat())
         with self.store.connection.transaction():
             self.store.connection.execute(f"SET LOCAL ROLE {self.schema}_reader")
@@ -306,7 +311,7 @@ class Schema(OfStore):
     def test_an_adder_removes_only_its_own_entries(self) -> None:
         """An `adder` can remove only what the same account has added, and a `writer` any entry. The log has the accounts."""
         ann, ben, carl = (self.make_account(*words) for words in (("ann", "adder"), ("ben", "adder"), ("carl", "writer")))
-        first, second = ann.add(A), ben.add(ZEROS)
+        first, second = ann.add(ENTRY), ben.add(ENTRY_OF_ZEROS)
         with contextlib.redirect_stdout(io.StringIO()), contextlib.redirect_stderr(io.StringIO()) as errors:
             self.assertEqual(commands.remove(ann, argparse.Namespace(numbers=[second])), 1)
         self.assertIn(f"entry {second} still counts", errors.getvalue())
@@ -315,7 +320,7 @@ class Schema(OfStore):
                      "UPDATE {entries} SET who = ''", "SELECT * FROM {imports}", "SELECT text FROM {changes}"):
             with self.subTest(text), self.assertRaises(psycopg.errors.InsufficientPrivilege):
                 ann.rows(text)
-        carl.add_many([A, ZEROS])
+        carl.add_many([ENTRY, ENTRY_OF_ZEROS])
         self.assertEqual([(who.rpartition("_")[2], change) for who, change in self.store.rows("SELECT who, what FROM {changes} ORDER BY number")],
                          [("ann", "add"), ("ben", "add"), ("ben", "remove"), ("carl", "remove"), ("carl", "add"), ("carl", "add")])
 
@@ -341,18 +346,18 @@ class Schema(OfStore):
                 store.rows(text)
         with self.assertRaises(psycopg.errors.InsufficientPrivilege):
             reader.rows(keep, bytes(32), b"")
-        self.assertRaises(psycopg.Error, keep_text, 3, bytes(9000))
+        self.assertRaises(psycopg.Error, keep_text, 3, bytes(8192 + 1))  # (the table has texts of at most 8,192 octets)
 
     def test_changes_are_numbered_in_order(self) -> None:
         """A change waits for the end of another transaction with a change, so no lower number appears after a higher one."""
         other = Store(self.server.address, self.schema)
         self.addCleanup(other.close)
         with self.store.connection.transaction():
-            self.store.add(A)
+            self.store.add(ENTRY)
             with self.assertRaises(psycopg.errors.LockNotAvailable), other.connection.transaction():
                 other.rows("SET LOCAL lock_timeout = '50ms'")
-                other.add(A)
-        other.add(A)
+                other.add(ENTRY)
+        other.add(ENTRY)
         self.assertEqual(self.store.rows("SELECT number FROM {changes} ORDER BY number"), [(1,), (2,)])
 
 
@@ -374,11 +379,11 @@ class OfDaemon(OfStore):
 class WithDriver(OfDaemon):
     """The daemon's code in Go that is built with the driver."""
 
-    def test_vet(self) -> None:
+    def test_go_vet_finds_nothing(self) -> None:
         self.go("vet", *WITH_DRIVER, ".")
 
     @needs.needs("go-staticcheck")
-    def test_lints(self) -> None:
+    def test_staticcheck_finds_nothing(self) -> None:
         settings = {**golang.settings(self.library), "XDG_CACHE_HOME": os.path.join(TESTS, "out", "staticcheck")}
         settings["GOFLAGS"] += " -modfile=postgres.mod"
         output = output_of("go-staticcheck", "-tags", "spki_postgres", ".", cwd=golang.DAEMON, env=settings, seconds=golang.SECONDS)
@@ -393,8 +398,7 @@ class WithDriver(OfDaemon):
 
 # `stale_seconds` of the daemons: the state of a store that is older decides nothing.
 STALE = 3
-# The site that clients sign requests to.
-SITE = "files.example.org"
+SITE = "files.example.org"  # (to which clients sign requests)
 
 
 class StoreDaemon:
@@ -549,7 +553,7 @@ def children_of(process: int) -> list[int]:
 
 
 class Asker(threading.Thread):
-    """Asks daemons for a person again and again, whatever fails. `granted` has the begin and the end of each granted request, by `time.monotonic`."""
+    """Asks daemons for a person again and again, whatever fails. `granted` has when each granted request began and ended, by `time.monotonic`."""
 
     def __init__(self, daemons: list[StoreDaemon], who: Person) -> None:
         super().__init__()
@@ -560,7 +564,7 @@ class Asker(threading.Thread):
         while not self.ends.is_set():
             for each in self.daemons:
                 begun = time.monotonic()
-                with contextlib.suppress(OSError, http.client.HTTPException):
+                with contextlib.suppress(OSError, http.client.HTTPException):  # (the tests kill daemons and servers)
                     if each.status(self.who) == 200:
                         self.granted.append((begun, time.monotonic()))
 
@@ -595,7 +599,7 @@ class Heartbeat(OfStore):
             self.assertEqual(self.last_beat(self.server), last)
             with psycopg.connect(self.server.address) as connection:
                 (waiting,), = connection.execute("SELECT count(*) FROM pg_stat_activity WHERE application_name = 'spki-store'").fetchall()
-            self.assertLessEqual(waiting, 4, "the beats that are left do not wait for ever")
+            self.assertLessEqual(waiting, 4, "the beats that are left do not wait for ever")  # (two beats, and connections that begin or end)
             replica.promote()
             promoted = time.monotonic()
             waits_for("the new primary has a beat", lambda: self.last_beat(replica) > last)
@@ -689,13 +693,14 @@ class Replicated(OfServed):
             self.start_beat(self.server.address)
             daemons = [self.start_daemon("behind", replica), self.start_daemon("direct", self.server)]
             front = os.path.join(self.room, "front")
-            config = self.file(PROXY.format(front=front, certificate=urllib.parse.quote(checker.certificate).replace("%", "%%"),
-                                            one=daemons[0].daemon.socket, other=daemons[1].daemon.socket).encode(), "haproxy.cfg")
+            names = {"front": front, "one": daemons[0].daemon.socket, "other": daemons[1].daemon.socket}
+            certificate = urllib.parse.quote(checker.certificate).replace("%", "%%")  # (HAProxy reads `%%` as `%`)
+            config = self.file(PROXY.format(**names, certificate=certificate).encode(), "haproxy.cfg")
             process = subprocess.Popen(["haproxy", "-f", config], stdout=subprocess.DEVNULL, stderr=subprocess.DEVNULL)
             stack.enter_context(databases.killed_at_end(process))
 
             def are_all(wanted: int) -> bool:
-                """Whether HAProxy answers ten requests with this status."""
+                """Whether HAProxy answers ten requests with this status. It may not listen yet."""
                 with contextlib.suppress(OSError):
                     return all(daemons[0].daemon.ask(alice, "GET", "/web/a", path=front).status == wanted for _ in range(10))
                 return False

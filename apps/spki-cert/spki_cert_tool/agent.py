@@ -46,7 +46,8 @@ def ask_agent(kind: int, body: bytes, wanted: int, refusal: str) -> bytes:
 
 def keys_of_agent() -> list[bytes]:
     """The public keys that the agent holds, as SSH encodes them. Raises BadKey as `ask_agent` does, or if one is cut off."""
-    body = ask_agent(REQUEST_IDENTITIES, b"", IDENTITIES, "ssh-agent does not say which keys it holds")
+    body = ask_agent(REQUEST_IDENTITIES, body=b"", wanted=IDENTITIES, refusal="ssh-agent does not say which keys it holds")
+    # (the number of keys, and for each the key and its comment as strings of SSH)
     count, rest, blobs = int.from_bytes(body[:4], "big"), body[4:], []
     for _ in range(count):
         blob, rest = split_string(rest)

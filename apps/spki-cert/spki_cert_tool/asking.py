@@ -3,7 +3,8 @@
 The library decides. What is here finds the certificates that lead to the key among those that are given, verifies signatures, and names what the
 library's reasons mean in these files. A reason is a line of the library's `explain`, as `entry 1 item 3 NoDelegation`: which entry, which item of the
 sequence stops the chain from this entry over all certificates, and the cause. An `Asked` is a question with the certificates that are at hand, and an
-`Answer` the decision about one sequence of them. A case is one text with a whole question.
+`Answer` the decision about one sequence of them. A case is one text with a whole question. A `Value` is an S-expression: `bytes`, a pair of them with
+a display hint in front, or a list of values.
 """
 from __future__ import annotations
 
@@ -346,7 +347,7 @@ def asked_of_case(case: Value, labels: Labels) -> Asked:
     access_list, accepted, sequence, key, request, moment, *policy = members(case)
     date = members(moment)[0]
     assert isinstance(date, bytes)
-    return Asked(access_list, members(key)[0], members(request)[0], date, labels, [sequence], bool(policy), members(accepted))
+    return Asked(access_list, members(key)[0], members(request)[0], date, labels, [sequence], is_strict=bool(policy), accepted=members(accepted))
 
 
 # ---- what a chain gives

@@ -2,7 +2,7 @@
 
 An entry is `(entry SUBJECT FIELD ..)` in an access list `(acl ENTRY ..)`. A certificate is `(cert FIELD ..)` in a sequence `(sequence ITEM ..)`,
 where its signature follows it. A principal is a key `(public-key ..)` or a hash of one, `(hash ALGORITHM DIGEST)`. A name is
-`(name PRINCIPAL STRING ..)`.
+`(name PRINCIPAL STRING ..)`. A `Value` is an S-expression: `bytes`, a pair of them with a display hint in front, or a list of values.
 """
 import contextlib
 import hashlib

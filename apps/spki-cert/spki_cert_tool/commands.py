@@ -1,5 +1,6 @@
-"""The commands of `spki-cert`. Each is a function of the words that were given, and returns the exit status. `given.WORD` is the value of the
-option or word WORD in `arguments`. Each raises Refused or BadKey for what it does not take, which `main` tells."""
+"""The commands of `spki-cert`. Each is a function of the words that were given, and returns the exit status: DONE, NO, REFUSED, or UNCONFIRMED for
+what is probably a mistake. `given.WORD` is the value of the option or word WORD in `arguments`. Each raises Refused or BadKey for what it does not
+take, which `main` tells on standard error. `write` takes pairs of a path and octets, and writes those without a path to standard output."""
 import argparse
 import base64
 import contextlib
@@ -143,7 +144,7 @@ def remove(given: argparse.Namespace) -> int:
     """Removes the entries for the subject of --to from an access list. Returns NO if there are none. The list of a stream is written in any case,
     since its reader waits for it, and that of a file only if it changes."""
     # (the key itself: a hash by one algorithm would not find entries by another)
-    text, removed = list_without(subject_of(given, lambda key: key), list_at(given.acl))
+    text, removed = list_without(subject_of(given, naming=lambda key: key), list_at(given.acl))
     if removed or given.acl == "-":
         write((given.acl, text), edits=True)
     advice = f"; {given.to} has none; `spki-cert show {given.acl}` lists them" if not removed else ""
@@ -246,9 +247,9 @@ def ask(given: argparse.Namespace) -> int:
         key = key_at(given.key)
         # (a folder of --cert may have public keys too, which give labels; a file of --cert is a sequence, and labels no key)
         labels = labels_of(given, *filter(os.path.isfile, [given.key]), *filter(os.path.isdir, given.cert))
-        # (the last argument is `is_strict`: --open asks for the open policy, under which hashes by SHA-1 name keys)
+        # (--open asks for the open policy, under which hashes by SHA-1 name keys)
         asked = Asked(value_of(given.acl, "acl"), key, request_of(given.words), given.at or now(), labels,
-                      [value_of(path, "sequence") for path in sequences_below(given.cert)], not given.open)
+                      [value_of(path, "sequence") for path in sequences_below(given.cert)], is_strict=not given.open)
     answer = best_answer(asked)
     lines = list(Words(asked, answer).lines())
     # (the sequence that grants is neither empty nor one of those that were given, but put together from their certificates)
@@ -271,6 +272,7 @@ def sequences_below(paths: list[str]) -> Iterator[str]:
     `sequence`."""
     from .checking import files_below
     for path, is_given in files_below(paths):
+        # (a file that is no S-expression is no sequence)
         with contextlib.suppress(Wrong):
             if is_given or value_in(octets_of(path)).head == b"sequence":
                 yield path
@@ -340,6 +342,7 @@ def end_by_signal(number: int, frame: object) -> NoReturn:
         # (a terminal that was closed, the reason of SIGHUP, has no settings any more)
         with contextlib.suppress(termios.error):
             termios.tcsetattr(descriptor, termios.TCSAFLUSH, attributes)
+    # (standard error may be closed)
     with contextlib.suppress(OSError):
         os.write(2, f"spki-cert: ended by {signal.Signals(number).name}\n".encode())
     os._exit(FAILED)

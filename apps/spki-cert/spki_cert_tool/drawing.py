@@ -2,7 +2,8 @@
 `svg_of` also draws the arrows of an access list, a certificate or a sequence.
 
 The chain of a case is that of the entry that grants the request, else of the entry whose chain goes furthest. The library says what stops it, and
-what right is left at its end. Other entries are left out. Long texts are broken into lines, and nothing but white space is cut off.
+what right is left at its end. Other entries are left out. Long texts are broken into lines, and nothing but white space is cut off. A `Value` is an
+S-expression: `bytes`, a pair of them with a display hint in front, or a list of values.
 """
 from __future__ import annotations
 

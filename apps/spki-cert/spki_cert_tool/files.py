@@ -122,6 +122,7 @@ def octets_of(path: str, most: int = MOST_OCTETS + 1) -> bytes:
         if INPUT in READ or sys.stdin is None:
             raise Refused(f"-: standard input {'is one file, and was read already' if INPUT in READ else 'is closed'}")
         READ.add(INPUT)
+        # (standard input is perhaps no file of the system)
         with contextlib.suppress(OSError, ValueError):
             READ.add(identity(os.fstat(sys.stdin.fileno())))
         return sys.stdin.buffer.read(most)
@@ -137,6 +138,7 @@ def refusal_to_read(path: str, why: OSError) -> Refused:
     if isinstance(why, IsADirectoryError):
         return Refused(f"{path}: this is a folder, and a file is wanted")
     neighbours = list[bytes]()
+    # (of a folder that cannot be listed no name is suggested)
     with contextlib.suppress(OSError):
         neighbours += map(os.fsencode, os.listdir(folder or "."))
     return Refused(f"{path}: {why.strerror}{suggestion(os.fsencode(name), neighbours)}")
@@ -298,8 +300,7 @@ def target_of(path: str, new: bytes, force: bool, edits: bool) -> tuple[str, os.
             raise Refused(f"{path}: it has {before.st_nlink} names, of which only one would be changed; nothing was written")
         with open(place, "rb") as file:
             old = file.read(MOST_OCTETS)
-        head = HEAD.match(read_text(old)[0][1])
-        is_key = is_key_file(old) or may_be_secret(old) or head is not None and head[1] == b"public-key"
+        is_key = is_key_file(old) or may_be_secret(old) or head_of_text(old) == b"public-key"
         if not is_read and (is_key or ENDED.match(old)):
             what = "a key, or what may be one," if is_key else "the file of ended certificates"
             raise Refused(f"{path}: {what} is there already, and is not written over; nothing was written")
@@ -317,11 +318,19 @@ def target_of(path: str, new: bytes, force: bool, edits: bool) -> tuple[str, os.
 def advice_on_existing(path: str, old: bytes, new: bytes) -> str:
     """What to do where a file is there already, in words. `old` are its octets, and `new` those to be written. If the two have different heads, also
     in braces, the path is probably a mistake, and --force is not advised."""
-    head = HEAD.match(read_text(old)[0][1])
-    if head is None or new.startswith(b"(" + head[1]):
+    head = head_of_text(old)
+    if head is None or new.startswith(b"(" + head):
         return "--force writes over it"
-    is_list = head[1] == b"acl"
-    return f"`spki-cert entry --acl {path}` adds an entry to this list" if is_list else f"it has `({head[1].decode()} ..)`: give another name"
+    is_list = head == b"acl"
+    return f"`spki-cert entry --acl {path}` adds an entry to this list" if is_list else f"it has `({head.decode()} ..)`: give another name"
+
+
+def head_of_text(octets: bytes) -> bytes | None:
+    """The word that the S-expression in a file begins with, also in braces. None if the file does not begin as one."""
+    # (`inner` is the text itself, or that in its braces)
+    (_, inner, _), _ = read_text(octets)
+    match = HEAD.match(inner)
+    return match[1] if match is not None else None
 
 
 def write(*parts: tuple[str | None, bytes], mode: int = 0o644, force: bool = False, edits: bool = False) -> None:

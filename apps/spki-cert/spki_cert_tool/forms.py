@@ -1,6 +1,7 @@
 """Reads a text of an S-expression in any of the three forms of docs/FORMATS.md, and says what is wrong with one and where.
 
-A value is read with its places, so that a fault can be shown at its line and column. The faults are those of the program `spki`.
+A value is read with its places, so that a fault can be shown at its line and column. The faults are those of the program `spki`. A place is an offset
+in the text, in octets from 0. What reads something takes the offset where this begins, and raises `Wrong` if it is not in its form.
 """
 from __future__ import annotations
 

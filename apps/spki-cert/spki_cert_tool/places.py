@@ -2,6 +2,9 @@
 
 A text headed `case`, `intersect`, `accepted`, `acl`, `sequence` or `public-key` is read as that, and so is `cert`, `signature`, `hash` or `entry`
 where no refusal is to be explained. Another value is read only as an S-expression, unless such a refusal says as what it is to be read.
+
+A fault is a `Wrong`, with the offset of its place. A `Diagnosis` is the fault of a text or None, the text in which the fault has its place, which for
+a text in braces is the canonical text inside, and then `places`, the offsets in the whole text of the octets inside, or None without braces.
 """
 import bisect
 import functools

@@ -1,5 +1,6 @@
 """Shows lists, certificates, sequences and cases in words: who, to whom, what, until when, and whether it may be delegated. Keys are called by
-labels from files of keys, else by the beginning of their hashes."""
+labels from files of keys, else by the beginning of their hashes. A row is what is shown of an entry, a certificate, a key or a question, as a
+dictionary for JSON, from which `lines_of` makes the words."""
 import contextlib
 import glob
 import os

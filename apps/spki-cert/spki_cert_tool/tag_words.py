@@ -2,7 +2,8 @@
 
 A request is a string or a list of requests. A string as a tag contains only itself. A list contains the lists that are at least as long, and whose
 members its own members contain, one by one. `(*)` contains every request, `(* set TAG ..)` what one of its members contains, `(* prefix STRING)` the
-strings that begin so, and `(* range ORDERING ge LOW le HIGH)` the strings between two limits.
+strings that begin so, and `(* range ORDERING ge LOW le HIGH)` the strings between two limits. A `Value` is an S-expression: `bytes`, a pair of them
+with a display hint in front, or a list of values.
 """
 import operator
 import re

@@ -1,4 +1,5 @@
-"""The commands of `spki-store`. Each is a function of a store and the words that were given, and returns the exit status."""
+"""The commands of `spki-store`. Each is a function of a store and the words that were given, and returns the exit status: DONE, or FOUND if something
+differs, is wrong or is not there. It raises Wrong, OSError or an error of psycopg, which `main` tells: the status is then REFUSED or FAILED."""
 from __future__ import annotations
 
 import argparse

@@ -1,4 +1,7 @@
-"""The tables of a store, through a connection of psycopg. Values are parameters of a statement and never a part of its text."""
+"""The tables of a store, through a connection of psycopg. Values are parameters of a statement and never a part of its text.
+
+schema.sql makes the tables: a row of `entries` has an entry, its number, and its principal, the digest by which it is found. `heartbeat` has one row,
+whose number `spki-store beat` increases, and `changes` is the log."""
 from __future__ import annotations
 
 import contextlib
@@ -96,6 +99,7 @@ class Store:
         PATIENCE: otherwise it would take minutes until the next one is asked. Raises the fault of the last host if none takes it."""
         *others, last = self.each_host()
         for host in others:
+            # (a host that does not take it is passed over)
             with contextlib.suppress(psycopg.OperationalError):
                 self.at, self.connection = host, connect_to(host)
                 return
@@ -165,6 +169,7 @@ class Store:
     def paged(self, text: str) -> Iterator[tuple[Any, ...]]:
         """Yields the rows of a statement, in which a table is written as `{entries}`, as of one moment. They are read in parts, so they may be more
         than fit into memory."""
+        # (a cursor with a name keeps its rows at the server)
         with self.connection.transaction(), self.connection.cursor("all_rows", binary=True) as cursor:
             cursor.itersize = PAGE
             cursor.execute(self.statement(text))

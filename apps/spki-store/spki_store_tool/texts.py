@@ -36,6 +36,7 @@ def end_of(text: mmap.mmap | bytes, at: int) -> int:
         elif octet == CLOSED:
             depth -= 1
         elif octet not in BRACKETS:
+            # (-1 if there is no colon: then `digits` is empty)
             colon = text.find(b":", at, at + MOST_LENGTH)
             digits = text[at:max(colon, at)]
             if not digits.isdigit():
@@ -114,6 +115,7 @@ def fault_of(texts: list[bytes]) -> tuple[int, str] | None:
     form, as `entries_in` cuts it. So they are read as one access list if they fit into MOST octets, which takes less time than one by one."""
     import spki
     whole = BEGIN + b"".join(texts) + END
+    # (a list that is refused is read again below, text by text)
     with contextlib.suppress(spki.Refused):
         if len(whole) <= MOST and spki.canonical(whole) == whole:
             with spki.Guard(whole) as guard:

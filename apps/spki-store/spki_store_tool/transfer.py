@@ -1,4 +1,5 @@
-"""Importing and exporting whole lists."""
+"""Importing and exporting whole lists. The table `imports` of a store has a row for each list that was imported, by the SHA-256 digest of its text:
+how many of its octets and entries are in the store by now, and whether that is all."""
 from __future__ import annotations
 
 import hashlib
@@ -66,10 +67,10 @@ def import_list(store: Store, path: str, is_shown: bool) -> tuple[int, int]:
             count += len(texts)
             with store.connection.transaction():
                 store.add_many(texts)
-                note(store, digest, offset, end, count, False)
+                note(store, digest, offset, end, count, is_done=False)
             offset = end
             progress.show(end, count)
-        note(store, digest, offset, len(text), count, True)
+        note(store, digest, offset, len(text), count, is_done=True)
         progress.show(len(text), count)
         return count - before, before
 
