@@ -1,3 +1,6 @@
+// Reads the fields `Signature-Input` and `Signature`. Each is a dictionary of RFC 8941 with one member, `spki=..`: the label is its name. A signature
+// covers components: fields of the request, and derived ones such as `@method`.
+
 package httpsig
 
 import (
@@ -60,7 +63,7 @@ func (p *parser) trySkip(text string) bool {
 // skipLabel skips the label of the first member and its `=`. The error is Malformed if one of the two is missing, and OtherLabel for another label
 // than `spki`.
 func (p *parser) skipLabel() error {
-	name := p.name()
+	name := p.readName()
 	if name == "" || !p.trySkip("=") {
 		return Malformed
 	}
@@ -81,8 +84,8 @@ func (p *parser) expectEnd() error {
 	return Malformed
 }
 
-// name reads the name of a member or of a parameter, and returns it. It is empty if none is there.
-func (p *parser) name() string {
+// readName reads the name of a member or of a parameter, and returns it. It is empty if none is there.
+func (p *parser) readName() string {
 	end := 0
 	for end < len(p.rest) && isNameOctet(p.rest[end], end) {
 		end++
@@ -92,15 +95,15 @@ func (p *parser) name() string {
 	return name
 }
 
-// isNameOctet says whether an octet may be at a place, from 0, in a name. The first is a small letter or `*`.
+// isNameOctet says whether an octet may be at a place, from 0, in a name (RFC 8941, `key`). The first is a small letter or `*`.
 func isNameOctet(octet byte, place int) bool {
 	return 'a' <= octet && octet <= 'z' || octet == '*' ||
 		place > 0 && ('0' <= octet && octet <= '9' || octet == '_' || octet == '-' || octet == '.')
 }
 
-// string reads a string of visible ASCII and spaces in quotes, and returns it without these. Everything else is Malformed, also an escape: no string
-// of a request needs one.
-func (p *parser) string() (string, error) {
+// readString reads a string of visible ASCII and spaces in quotes, and returns it without the quotes. Everything else is Malformed, also an escape:
+// no string of a request needs one.
+func (p *parser) readString() (string, error) {
 	if !p.trySkip(`"`) {
 		return "", Malformed
 	}
@@ -118,8 +121,8 @@ func (p *parser) string() (string, error) {
 	return text, nil
 }
 
-// integer reads a number of seconds: at most 15 digits, without a sign, and without a 0 in front. Everything else is Malformed.
-func (p *parser) integer() (int64, error) {
+// readInteger reads a number of seconds: at most 15 digits, without a sign, and without a 0 in front. Everything else is Malformed.
+func (p *parser) readInteger() (int64, error) {
 	end := 0
 	for end < len(p.rest) && '0' <= p.rest[end] && p.rest[end] <= '9' {
 		end++
@@ -132,9 +135,9 @@ func (p *parser) integer() (int64, error) {
 	return strconv.ParseInt(text, 10, 64)
 }
 
-// components reads the list of components, `("@method" ..)`, and returns their names in order. The error is UnknownComponent, ComponentTwice or
+// readComponents reads the list of components, `("@method" ..)`, and returns their names in order. The error is UnknownComponent, ComponentTwice or
 // Malformed, which more than mostComponents are too.
-func (p *parser) components() ([]string, error) {
+func (p *parser) readComponents() ([]string, error) {
 	if !p.trySkip("(") {
 		return nil, Malformed
 	}
@@ -146,7 +149,7 @@ func (p *parser) components() ([]string, error) {
 		if len(names) > 0 && !p.trySkip(" ") {
 			return nil, Malformed
 		}
-		name, err := p.string()
+		name, err := p.readString()
 		if err != nil {
 			return nil, err
 		}
@@ -194,17 +197,17 @@ func inputOf(text string) (*input, error) {
 	}
 	input.text = parser.rest
 	var err error
-	if input.components, err = parser.components(); err != nil {
+	if input.components, err = parser.readComponents(); err != nil {
 		return nil, err
 	}
-	count, err := input.parameters(parser)
+	count, err := input.readParameters(parser)
 	if err != nil {
 		return nil, err
 	}
 	switch {
 	case !input.hasComponents():
 		return nil, MissingComponent
-	case count != len(input.parameterFields()): // (each that was read is known and there once)
+	case count != len(input.parameterFields()): // (readParameters refuses an unknown one and a second one, so this is too few)
 		return nil, MissingParameter
 	}
 	return input, nil
@@ -224,13 +227,13 @@ func (i *input) parameterFields() map[string]any {
 	}
 }
 
-// parameters reads the parameters, `;created=1700000000 ..`, up to the end of the text, into the fields of i, and returns their number. The error is
-// a Refusal.
-func (i *input) parameters(p *parser) (int, error) {
+// readParameters reads the parameters, `;created=1700000000 ..`, up to the end of the text, into the fields of i, and returns their number. The error
+// is a Refusal.
+func (i *input) readParameters(p *parser) (int, error) {
 	// (the pointer of a parameter that was read becomes nil, so a second one is ParameterTwice)
 	fields, count := i.parameterFields(), 0
 	for p.trySkip(";") {
-		name := p.name()
+		name := p.readName()
 		if name == "" {
 			return 0, Malformed
 		}
@@ -257,9 +260,9 @@ func (i *input) parameters(p *parser) (int, error) {
 func (p *parser) readInto(field any) (err error) {
 	switch field := field.(type) {
 	case *int64:
-		*field, err = p.integer()
+		*field, err = p.readInteger()
 	case *string:
-		*field, err = p.string()
+		*field, err = p.readString()
 	}
 	return err
 }
@@ -273,15 +276,15 @@ func octetsOf(text string) ([]byte, error) {
 	if err := parser.skipLabel(); err != nil {
 		return nil, err
 	}
-	octets, err := parser.octets()
+	octets, err := parser.readOctets()
 	if err != nil {
 		return nil, err
 	}
 	return octets, parser.expectEnd()
 }
 
-// octets reads base64 between two colons, and returns the octets that it encodes. Everything else is Malformed.
-func (p *parser) octets() ([]byte, error) {
+// readOctets reads base64 between two colons, and returns the octets that it encodes. Everything else is Malformed.
+func (p *parser) readOctets() ([]byte, error) {
 	if !p.trySkip(":") {
 		return nil, Malformed
 	}

@@ -119,6 +119,7 @@ func (v *Verifier) Take(proof *Proof) error {
 		// (the nonce may have been used, and be forgotten)
 		return Expired
 	}
+	// (a signature that Check accepts now is accepted for so many seconds at most)
 	return v.Nonces.Take([]byte(proof.Key.Text()), proof.nonce, now, mostWindow+mostAhead)
 }
 
