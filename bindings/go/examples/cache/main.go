@@ -23,14 +23,14 @@ func must[T any](value T, err error) T {
 	return value
 }
 
-// main answers each line: `denied`, `written N` or `not written N` for a text of N octets, what the file has, or `nothing is there`.
+// main answers each line: `denied`, `written N` or `not written N` for a text of N octets, the octets of the file, or `nothing is there`.
 func main() {
 	if len(os.Args) != 5 {
 		log.Fatal("usage: cache ACL FOLDER KEY SEQUENCE")
 	}
 	list := must(guard.Open(must(os.ReadFile(os.Args[1])), guard.Strict, guard.Limits{}))
 	client, sequence, decision, lastRequest := spki.AssumeKey(must(os.ReadFile(os.Args[3]))), must(os.ReadFile(os.Args[4])), guard.Decision{}, ""
-	for lines := bufio.NewScanner(os.Stdin); lines.Scan() || must(false, lines.Err()); { // (Scan also ends at an error, as for a line over 64 KiB)
+	for lines := bufio.NewScanner(os.Stdin); lines.Scan() || must(false, lines.Err()); { // (an error, as for a line over 64 KiB, ends the program)
 		words := append(strings.SplitN(lines.Text(), " ", 3), "", "") // (action, path and text, of which some may be empty)
 		file, isNormal := os.Args[2]+words[1], words[1] != "/" && path.Clean("/"+words[1]) == words[1]
 		if request := words[0] + " " + words[1]; request != lastRequest || !decision.HoldsAt(time.Now()) {
