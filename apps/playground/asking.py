@@ -1,6 +1,6 @@
-"""What the page asks, and the answers as it shows them. Each job yields its answer in parts, a decision before its explanation: a part is a
-dictionary, and its fields replace those of earlier parts. `engine` is the `Engine` that decides, `sent` the object that the page sent, and
-`sent_question` the question in it.
+"""What the page asks, and the answers as it shows them. A job is one kind of question, a function in JOBS. It yields its answer in parts, a decision
+before its explanation: a part is a dictionary, and its fields replace those of earlier parts. `engine` is the `Engine` that decides, `sent` the
+object that the page sent, and `sent_question` the question in it.
 
 The server ends the process of a job that takes too long, and keeps the parts that were yielded.
 """
@@ -25,7 +25,7 @@ def refusal_part(sent_question, line):
 
 
 def labels_of(engine, sent):
-    """The labels of keys that the page sent."""
+    """The names of keys that the page sent, as `Labels`."""
     return Labels(engine, text(sent, "labels"))
 
 
@@ -65,9 +65,8 @@ def case(engine, sent):
 
 
 def decision_parts(sent_question, labels):
-    """Yields the decision of a question, then the reasons and the picture, then both again with the rights that remain, which they name. If the
-    library refuses to explain, a notice is the last part. `sent_question` is a `SentQuestion` or a `SentCase`. Raises `Refused` if the library
-    refuses to decide."""
+    """Yields the decision of a question, then the reasons and the picture, then both again, now with the rights that remain. If the library refuses
+    to explain, a notice is the last part. `sent_question` is a `SentQuestion` or a `SentCase`. Raises `Refused` if the library refuses to decide."""
     line = sent_question.check()
     yield {"kind": "yes" if line.startswith("yes") else "no", "line": line}
     acl, sequence, key, request, at = sent_question.values()
@@ -98,9 +97,11 @@ def reasons_part(story, reasons, line):
 def add_rights_left(sent_question, story, reasons, reduced):
     """Adds rights to `story.rights_left`. By an entry's number and None: the right that remains of it, from `reduced`, the lines of `reduce` in the
     order of the entries, for the entries of the first MOST_LEFT `reasons`, which go furthest. By the number of the first reason's entry and that of
-    the item that stops its chain: the right before that item, which the library is asked for. Raises `Refused`, with those before added."""
+    the item that stops its chain: the right before that item, which the library is asked for. Raises `Refused` if the library refuses that. The
+    rights that were added before stay."""
     value = sent_question.engine.value
     for reason in reasons[:MOST_LEFT]:
+        # (a line without `(five ..)` says what stops the chain: then no right remains)
         if reason.entry and "(five" in reduced[reason.entry - 1]:
             story.rights_left[reason.entry, None] = value(right_text(reduced[reason.entry - 1]))
     first = reasons[0] if reasons else None
@@ -154,6 +155,7 @@ def containment(engine, tag, words):
     except Refused as why:
         return {"line": why.line, "places": places_for_page(tag, places(tag, why.line))}
     try:
+        # (PARTS has an empty sequence, the key of the entry, and some moment)
         answer = engine.lines(Question(acl, PARTS["sequence"], PARTS["key"], words, PARTS["at"]), "check")[0]
         return {"contains": answer != "no"}
     except Refused as why:

@@ -4,7 +4,7 @@ from labels import field
 from spki_cert_tool.sexp import on_one_line
 from story import issuer_of, subject_after, moment_of, subject_of, tag_of, window
 
-# What is written beside the arrow at which a chain stops, by the cause of the no.
+# What is written beside the arrow at which a chain stops, by the cause of the no, a word of `explain`.
 SHORT = {
     "KeyNotShown": "the key of its issuer is not shown", "DigestDiffers": "its signature has another digest",
     "SignerDiffers": "it is signed by another key than its issuer's", "NotAccepted": "its signature does not count",
@@ -50,7 +50,7 @@ class Chain:
         self.subject = subject
 
     def begin(self, number):
-        """Adds the access list and one of its entries, by its number from 1."""
+        """Adds the box of the access list, and the arrow of one of its entries, by its number from 1, to the entry's subject."""
         entry = self.story.entries[number - 1]
         count = len(self.story.entries)
         self.add_box("list", "Access list", "1 entry" if count == 1 else f"{count} entries")
@@ -58,7 +58,7 @@ class Chain:
         self.add_subject(entry[1])
 
     def follow(self, reason):
-        """Adds the certificates up to the one that stops the chain, which is `reason.item`, or all if none does."""
+        """Adds the certificates up to the one that stops the chain, whose number among all items is `reason.item`, or all if that is None."""
         for number, item in enumerate(self.story.items, 1):
             if item[0] != b"cert" or (reason.item and number > reason.item):
                 continue

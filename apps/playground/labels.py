@@ -9,12 +9,14 @@ from spki_cert_tool.sexp import canonical, on_one_line
 LINE = re.compile(r"\s*(.*?)\s*=?\s*(\(.*)", re.DOTALL)
 # The most lines of labels that are read, and the most letters of a label. What is more is left out.
 MOST_LABELS, MOST_LETTERS = 64, 40
+# What is shown of a key as it is: its only part, if that is at most 40 visible characters and spaces.
 PLAIN = re.compile(rb"[ -~]{1,40}\Z")
 
 
 class Labels:
-    """Labels of keys, hashes and names: `of_values` has them by canonical texts, `hashes` the keys by algorithm and digest, and `faults` the lines
-    that cannot be read, each as its number from 1 and why. `lines` is a text with a label and a key on each line, and `engine` reads the keys."""
+    """Labels of keys, hashes and names: `of_values` has them by canonical texts, `hashes` the keys, as values, by algorithm and digest, and `faults`
+    the lines that cannot be read, each as its number from 1 and why. `lines` is a text with a label and a key on each line, and `engine` reads the
+    keys."""
 
     def __init__(self, engine, lines):
         self.of_values, self.hashes, self.faults = {}, {}, []
@@ -48,8 +50,8 @@ class Labels:
                 self.learn_comment(part)
 
     def learn_comment(self, part):
-        """Takes the comment of `part`, an entry or a certificate, as a label of its subject. In a tag or a key a list may have such a head and be
-        neither, so its form is tested too."""
+        """Adds the comment of `part`, an entry or a certificate, as a label of its subject, unless the subject has a label. In a tag or a key a list
+        may begin with `entry` or `cert` and be none, so its form is tested too."""
         comment = field(part, b"comment")
         subject = part[1:2] if part[0] == b"entry" else (field(part, b"subject") or [])[1:2]
         if comment and len(comment) == 2 and isinstance(comment[1], bytes) and subject and isinstance(subject[0], list):
@@ -72,7 +74,7 @@ class Labels:
 
 
 def field(value, head):
-    """The field of a certificate, an entry or a right with a head, or None."""
+    """The field of a certificate, an entry or a right that begins with the word `head`, as `(tag ..)` for b"tag". None if there is none."""
     return next((part for part in value[1:] if isinstance(part, list) and part[:1] == [head]), None)
 
 

@@ -41,7 +41,7 @@ def is_one_string_of_words(request):
 
 def sentence_of(story, reason):
     """A line of `explain`, a `Reason`, as the page shows it: a dictionary with the line in words (`says`), what to do (`hint`), the line itself and
-    its parts. `story` is the question that was answered, a `Story`."""
+    its parts. `story` is the question that was answered, a `Story`. If the right that remains is not known, its window is only `in another time`."""
     says, hint = WORDS[reason.word]
     if reason.word == "TagLacks" and is_one_string_of_words(story.request):
         hint = ONE_STRING
@@ -64,7 +64,8 @@ def phrase_on_certificates(story):
 
 
 def title(reasons, line):
-    """The answer itself, in one sentence: that of the first of `reasons`, which `sentence_of` has made, or one by the line of the decision."""
+    """The answer in one sentence: that of the first of `reasons`, dictionaries of `sentence_of`. Without reasons it is one by `line`, that of the
+    decision."""
     if line.startswith("yes"):
         return reasons[0]["says"] if reasons else f"Entry {line.rsplit(' ', 1)[1]} grants the request."
     return reasons[0]["says"] if reasons else "The access list is empty."

@@ -32,8 +32,8 @@ class Reason:
 
     @property
     def rank(self):
-        """A key for `sorted`: what grants is first, then the chain that goes furthest. Of those that join to their end, one that ends at another key
-        is the last. Of equal ones the first entry is first."""
+        """A key for `sorted`: what grants is first, then the chain that goes furthest, where one that no item stops goes further than all others. Of
+        chains without such an item, one that ends at another key is the last. Of equal ones the first entry is first."""
         return self.word != "grants", -(self.item or sys.maxsize), self.word == "NotTheKey", self.entry or 0
 
 
@@ -107,7 +107,7 @@ def subject_after(before, certificate):
 
 
 def window(value):
-    """The validity of an entry, a certificate or a right, in words, or None if it has no limit."""
+    """The validity of an entry, a certificate or a right, in words, as `from 2026-01-01 00:00:00`, or None if it has no limit."""
     limits = field(value, b"valid") or value
     parts = [(word, field(limits, head)) for word, head in (("from", b"not-before"), ("until", b"not-after"))]
     return " ".join(f"{word} {moment_of(limit[1])}" for word, limit in parts if limit) or None

@@ -22,9 +22,9 @@ TOO_LARGE = "The text is too large for this page."
 
 
 def serve(pipe, wanted, seconds):
-    """Runs in a process until the pipe is closed: takes a job from it, its name in JOBS and what the page sent, and sends back the parts of its
-    answer, which are dictionaries, then None. `wanted` is `library`, `program` or None, for `choose_engine`. If the text is too large or the
-    program fails, the last part is a notice. A job that takes over `seconds` + GRACE ends the process."""
+    """Runs in a process until `pipe`, a connection of multiprocessing, is closed: takes a job from it, its name in JOBS and the object that the page
+    sent, and sends back the parts of its answer, which are dictionaries, then None. `wanted` is `library`, `program` or None, for `choose_engine`. If
+    the text is too large or the program fails, the last part is a notice. A job that takes over `seconds` + GRACE ends the process."""
     # (so the programs that it runs can be ended with it, as a group, and ctrl-c in the terminal of the server does not reach them)
     os.setsid()
     signal.signal(signal.SIGINT, signal.SIG_IGN)
@@ -63,8 +63,8 @@ class Worker:
         far_end.close()
 
     def answer(self, name, sent):
-        """Sends a job, its name in JOBS and the object that the page sent, and waits for its answer, or for what there is of it in time. Returns it,
-        a dictionary, and whether the process can be asked again. What was left out, and why, is the field `notice` of the answer."""
+        """Sends a job, its name in JOBS and the object that the page sent, and waits for its answer, or for those parts that come within `seconds`.
+        Returns them as one dictionary, and whether the process can be asked again. What was left out, and why, is the field `notice` of the answer."""
         whole, ends = {}, time.monotonic() + self.seconds
         try:
             self.pipe.send((name, sent))
