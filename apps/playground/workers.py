@@ -64,7 +64,7 @@ class Worker:
 
     def answer(self, name, sent):
         """Sends a job, its name in JOBS and the object that the page sent, and waits for its answer, or for those parts that come within `seconds`.
-        Returns them as one dictionary, and whether the process can be asked again. What was left out, and why, is the field `notice` of the answer."""
+        Returns them as one dictionary, and whether the process can be asked again. The field `notice` says what was left out, and why."""
         whole, ends = {}, time.monotonic() + self.seconds
         try:
             self.pipe.send((name, sent))
