@@ -110,8 +110,8 @@ def tries_of_keys(home):
 
 
 def tries_of_captured_list(home):
-    """Yields what is tried with the list of hosts that lsh wrote into lsh/captured: a remark, the actual and the expected output. Its one entry has the
-    field `(subject KEY)`, where an access list of `spki` has the key itself."""
+    """Yields what is tried with the list of hosts that lsh wrote into lsh/captured: a remark, the actual and the expected output. Its one entry has
+    the field `(subject KEY)`, where an access list of `spki` has the key itself."""
     with open(os.path.join(HERE, "lsh", "captured"), "rb") as file:
         text = file.read()
     # (a comment of lsh is in front of the list, which is in transport form)

@@ -61,8 +61,8 @@ def quoted(lines):
 
 
 def dot_of(drawing):
-    """Yields the lines of a drawing, a `drawing.Drawing`, in the language of Graphviz. A subject is an ellipse. The access list and the request, which
-    have a colour, are boxes."""
+    """Yields the lines of a drawing, a `drawing.Drawing`, in the language of Graphviz. A subject is an ellipse. The access list and the request,
+    which have a colour, are boxes."""
     # (the names of the shapes are octets that Graphviz could not read)
     names = {identity: f"n{place}" for place, identity in enumerate(drawing.shapes)}
     yield from ("digraph chain {", "  rankdir=LR;", "  node [shape=ellipse, fontsize=11];", "  edge [fontsize=10];")
