@@ -1,3 +1,5 @@
+// Tests of keys that clients have proved to hold (ProveKey), and of the schemes of signatures. Keys are texts in canonical form.
+
 package spki_test
 
 import (

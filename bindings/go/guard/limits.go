@@ -1,3 +1,5 @@
+// What bounds a question: the policy for hashes, and limits.
+
 package guard
 
 import (

@@ -1,3 +1,5 @@
+// The errors of a Guard. A refusal is a line of the library that begins with `refused`.
+
 package guard
 
 import (

@@ -1,3 +1,5 @@
+// A Verified keeps, for later questions, which signatures of a sequence are valid. A mark says that the signature at a place, from 0, is valid.
+
 package guard
 
 // A Verified is a sequence whose signatures were marked as valid in a question. It has the sequence, so what was verified for one client does not

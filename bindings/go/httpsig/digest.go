@@ -1,3 +1,5 @@
+// The digest of a body, in the field `Content-Digest` of RFC 9530.
+
 package httpsig
 
 import (

@@ -24,7 +24,7 @@ const (
 	mostDigits     = 15
 )
 
-// The components that are no fields.
+// The derived components: those that are no fields.
 const (
 	method    = "@method"
 	authority = "@authority"
@@ -164,8 +164,8 @@ func (p *parser) readComponents() ([]string, error) {
 	return names, nil
 }
 
-// isComponent says whether a signature may cover what has this name: a field, in small letters, or one of the five components that are derived. The
-// two fields of the signature itself may not be covered.
+// isComponent says whether a signature may cover a component of this name: a field, in small letters, or one of the five derived ones. The two fields
+// of the signature itself may not be covered. Whether the request has the field is not tested.
 func isComponent(name string) bool {
 	switch name {
 	case method, authority, targetURI, path, query:
@@ -176,10 +176,10 @@ func isComponent(name string) bool {
 	return isToken(name) && name == strings.ToLower(name)
 }
 
-// contains says whether a name is among others.
+// contains says whether a name is one of `names`.
 func contains(names []string, name string) bool {
-	for _, each := range names {
-		if each == name {
+	for _, other := range names {
+		if other == name {
 			return true
 		}
 	}
@@ -213,7 +213,7 @@ func inputOf(text string) (*input, error) {
 	return input, nil
 }
 
-// hasComponents says whether all components are there that are required: the method, the authority, the key, and the target, either whole
+// hasComponents says whether the signature covers all components that are required: the method, the authority, the key, and the target, either whole
 // or as path and query.
 func (i *input) hasComponents() bool {
 	hasTarget := contains(i.components, targetURI) || contains(i.components, path) && contains(i.components, query)
@@ -267,7 +267,7 @@ func (p *parser) readInto(field any) (err error) {
 	return err
 }
 
-// octetsOf returns the octets of the signature in the value of `Signature`. The error is a Refusal.
+// octetsOf reads the value of `Signature`, `spki=:BASE64:`, and returns the octets of the signature. The error is a Refusal.
 func octetsOf(text string) ([]byte, error) {
 	parser := &parser{text}
 	if len(text) > mostInput {

@@ -1,3 +1,6 @@
+// The service's side of signed requests (docs/SIGNATURES.md): a Verifier tests a Message, and returns a Proof, which says which key has signed it, or
+// a Refusal. A nonce is the text that makes each signature count once.
+
 package httpsig
 
 import (

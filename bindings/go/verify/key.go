@@ -1,3 +1,6 @@
+// SPKI keys and Go's public keys. A key is a text in canonical form, where a string is LENGTH:OCTETS. `q` is the point of a key by Ed25519 or ECDSA.
+// `n` and `e` are the numbers of one by RSA.
+
 package verify
 
 import (

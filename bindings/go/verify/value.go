@@ -1,3 +1,5 @@
+// The values of signatures, `(sig-val ..)` in canonical form, where a string is LENGTH:OCTETS: r and s by Ed25519 and ECDSA, s by RSA.
+
 package verify
 
 import (

@@ -1,3 +1,6 @@
+// Tests of keys and signatures. A row of testdata/spki-cert.json is a certificate that `spki-cert sign` made: its key, message and value are texts in
+// canonical form. isValid says whether Signature accepts these three.
+
 package verify
 
 import (
