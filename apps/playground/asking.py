@@ -10,7 +10,7 @@ from engine import PARTS, Question, Refused, string
 from given import MOST_LETTERS, SentQuestion, SentCase, text, words_of
 from labels import Labels
 from place import places, places_for_page
-from sentences import ONE_STRING, REFUSED, is_one_string_of_words, right_left, sentence_of, title
+from sentences import ONE_STRING, REFUSED, is_one_string_of_words, right_for_page, sentence_of, title
 from spki_cert_tool.sexp import laid_out, read
 from story import Story, reasons_of
 
@@ -82,7 +82,7 @@ def decision_parts(sent_question, labels):
     except Refused as why:
         yield {"notice": f"The decision has no explanation here: {why.line}."}
         return
-    rights = [right_left(story, number, item, right) for (number, item), right in story.rights_left.items()]
+    rights = [right_for_page(story, number, item, right) for (number, item), right in story.rights_left.items()]
     yield {"rights": rights, **reasons_part(story, reasons, line)}
 
 

@@ -57,8 +57,8 @@ class Labels:
         if comment and len(comment) == 2 and isinstance(comment[1], bytes) and subject and isinstance(subject[0], list):
             self.of_values.setdefault(canonical(subject[0]), comment[1].decode(errors="replace")[:MOST_LETTERS])
 
-    def key(self, principal):
-        """The key that a principal, a key or a hash, names, if it is known, else the principal."""
+    def key_named_by(self, principal):
+        """The key, a value, that a principal, a key or a hash, names. For a hash whose key was not learned it is the principal itself."""
         return self.hashes.get((principal[1], principal[2]), principal) if principal[0] == b"hash" else principal
 
     def name_of(self, subject):
@@ -69,7 +69,7 @@ class Labels:
         if subject[0] == b"name":
             names = [name.decode(errors="replace") for name in subject[2:]]
             return f"{' '.join(names)} of {self.name_of(subject[1])}"
-        key = self.key(subject)
+        key = self.key_named_by(subject)
         return self.name_of(key) if key is not subject else short(subject)
 
 

@@ -63,8 +63,8 @@ class Story:
         """The certificate that is the item of the sequence with this number, from 1."""
         return self.items[item - 1]
 
-    def number(self, item):
-        """The number of a certificate among the certificates, by its number among all items."""
+    def certificate_number(self, item):
+        """The number of a certificate among the certificates, by its number among all items. Both count from 1."""
         return sum(value[0] == b"cert" for value in self.items[:item])
 
     def holder(self, reason):
@@ -77,8 +77,8 @@ class Story:
                 subject = subject_after(subject, item)
         return subject
 
-    def left(self, reason):
-        """The right where the chain of a reason ends or stops, or None if it is not known."""
+    def remaining_right(self, reason):
+        """The right that remains where the chain of a reason ends or stops, a value `(five ..)`, or None if it is not known."""
         return self.rights_left.get((reason.entry, reason.item))
 
 
