@@ -1,6 +1,7 @@
 // Tests of guards. Keys and signatures are words, such as a and `sig`: the verifier of a test says which signatures are valid. By `list`, an access
 // list, the key a may do everything. By the certificate `forB`, a lets b do it. questionWith(n) is a question by b, who shows `forB` n times: it can
-// be granted for n = 1 alone. acceptAll and acceptNone are verifiers. A place is the number of a signature in its question, from 0.
+// be granted for n = 1 alone. By `forA` a lets itself do everything, so it may be in front of `forB`. `forgedForC` is for c, and its signature is not
+// valid. acceptAll and acceptNone are verifiers. A place is the number of a signature in its question, from 0.
 
 package guard_test
 
@@ -57,8 +58,7 @@ func openGuard(t testing.TB, list string) *guard.Guard {
 	return opened
 }
 
-// By `forA`, a lets itself do everything: such a certificate may stand in front of another one, also twice. By `forgedForC`, c has a certificate in
-// the name of a, whose signature is not valid.
+// The issuer of both certificates is a. The signature of `forgedForC` has the value `forged`, where a valid one has `sig`.
 const (
 	forA = `(cert (issuer (public-key (test a))) (subject (public-key (test a))) (propagate) (tag (*)))
 		(signature (hash sha256 #b26a73c3cdcb26bbb71fa21531b5b6a1745fc316ddfcf53862a174f5dccebfb6#) (public-key (test a)) sig)`
@@ -99,7 +99,8 @@ func acceptAll(guard.Signature) bool { return true }
 // acceptNone is a verifier for which no signature is valid.
 func acceptNone(guard.Signature) bool { return false }
 
-// TestVerifierIsGivenWhatIsSigned decides by a verifier that accepts the signature of `forB` alone, and by one that accepts none.
+// TestVerifierIsGivenWhatIsSigned decides by a verifier that accepts the signature of `forB` alone, and by one that accepts none. So the first is
+// given exactly the key, the message and the value of that signature, once.
 func TestVerifierIsGivenWhatIsSigned(t *testing.T) {
 	calls := 0
 	decision, err := openGuard(t, list).Decide(questionWith(1), func(signature guard.Signature) bool {
@@ -305,14 +306,14 @@ func TestClientsInGoroutines(t *testing.T) {
 	all.Wait()
 }
 
-// TestMarksAreOfOnePlace shows two equal certificates, of which both have to be marked.
+// TestMarksAreOfOnePlace shows `forA` twice, by the key a. One mark, at either place, grants nothing: each of the two equal signatures needs its own.
 func TestMarksAreOfOnePlace(t *testing.T) {
 	question := questionWith(0)
 	question.Sequence, question.Key = []byte("(sequence "+forA+forA+")"), spki.AssumeKey([]byte("(public-key (test a))"))
 	for place := 0; place < 2; place++ {
 		asked := askAndMark(t, openGuard(t, list), question, place)
 		if isGranted(t, asked) || asked.Count() != 2 {
-			t.Errorf("the mark of place %d counts for both", place)
+			t.Errorf("the mark at place %d counts for both places", place)
 		}
 		if err := asked.Mark(1 - place); err != nil || !isGranted(t, asked) {
 			t.Error(err)
