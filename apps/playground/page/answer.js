@@ -55,7 +55,7 @@ export class Answer {
     setText(byId("text"), answer.case ?? "");
   }
 
-  /** Shows that there is no answer, and why. Of an earlier answer only the signatures stay, dimmed. */
+  /** Shows that there is no answer, and why. The signatures of an earlier answer are dimmed, and the rest of it is hidden. */
   showNone(why) {
     showNotice("notice", "");
     this.showVerdict("none", "No answer", why, "");

@@ -399,12 +399,13 @@ func TestQuestionIsCopied(t *testing.T) {
 	question.Words[0] = ""
 	for turn := 0; turn < 2; turn++ {
 		if !isGranted(t, asked) {
-			t.Error("no")
+			t.Error("the octets of the question are not copied")
 		}
 	}
 }
 
-// TestStringsAreStrings requests by words that have spaces and parentheses. Each stays one string. In a row the words are joined by commas.
+// TestStringsAreStrings requests by words that have spaces, parentheses or no octets. Each stays one string, so a word with a space in it is not two
+// words. In a row the words are joined by commas.
 func TestStringsAreStrings(t *testing.T) {
 	opened := openGuard(t, "(acl (entry (public-key (test b)) (tag (cache (* prefix /cache/team1/) read))))")
 	for words, wanted := range map[string]bool{
@@ -607,9 +608,9 @@ func TestAClockThatFailed(t *testing.T) {
 			t.Errorf("%d: %v", seconds, err)
 		}
 	}
-	last := openGuard(t, `(acl (entry (public-key (test b)) (tag (*))))`)
-	question.Time = time.Unix(253_402_300_799, 999_999_999)
-	if decision, err := last.Decide(question, acceptAll); err != nil || !decision.Granted() {
+	endless := openGuard(t, `(acl (entry (public-key (test b)) (tag (*))))`)
+	question.Time = time.Unix(253_402_300_799, 999_999_999) // (the last nanosecond of the year 9999)
+	if decision, err := endless.Decide(question, acceptAll); err != nil || !decision.Granted() {
 		t.Errorf("%v, %v", decision, err)
 	}
 }
@@ -639,7 +640,8 @@ func TestUntil(t *testing.T) {
 	}
 }
 
-// TestVerifierThatFails decides by verifiers that answer, fail, or do both, and by a context that ends before the first signature, or after it.
+// TestVerifierThatFails decides by verifiers that answer, fail, or do both, and by a context that ended before. Require returns the number of the
+// entry, or the same error, or ErrDenied for a no.
 func TestVerifierThatFails(t *testing.T) {
 	opened, away := openGuard(t, list), errors.New("the key store is away")
 	stopped, stop := context.WithCancel(context.Background())
@@ -667,11 +669,15 @@ func TestVerifierThatFails(t *testing.T) {
 			t.Errorf("%s: %d, %v", name, entry, err)
 		}
 	}
-	// (three signatures, of which the first call ends the context)
-	ending, end := context.WithCancel(context.Background())
+}
+
+// TestContextThatEndsInACall shows three certificates. The first call of the verifier ends the context, so there is no second call, and nothing is
+// granted.
+func TestContextThatEndsInACall(t *testing.T) {
+	ctx, end := context.WithCancel(context.Background())
 	question, calls := questionWith(0), 0
 	question.Sequence = []byte("(sequence " + forA + forA + forB + ")")
-	decision, err := opened.DecideContext(ending, question, func(context.Context, guard.Signature) (bool, error) {
+	decision, err := openGuard(t, list).DecideContext(ctx, question, func(context.Context, guard.Signature) (bool, error) {
 		calls++
 		end()
 		return true, nil
