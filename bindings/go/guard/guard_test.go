@@ -809,10 +809,8 @@ func TestPanicOfVerifier(t *testing.T) {
 	}
 }
 
-// TestForms converts texts among the three forms of RFC 9804, and what is in none of them is refused. The buffer of an answer does not grow with a
-// text that is too long: the 16 MiB of `tooLong` are copied once from the string, and the longest answer to a text within the limit has 3 MiB.
+// TestForms converts texts among the three forms of RFC 9804. What is in none of them is refused.
 func TestForms(t *testing.T) {
-	tooLong := strings.Repeat(" ", 16<<20)
 	canonical, err := guard.Canonical([]byte("(a b)"))
 	if err != nil || string(canonical) != "(1:a1:b)" {
 		t.Errorf("%q, %v", canonical, err)
@@ -837,6 +835,12 @@ func TestForms(t *testing.T) {
 	if _, err := guard.Canonical(nil); fmt.Sprint(err) != "refused form Short" {
 		t.Error(err)
 	}
+}
+
+// TestTooLongTextNeedsNoLongBuffer converts a text of 16 MiB, which is refused. The buffer of an answer does not grow with it: the text is copied
+// once from the string, and the longest answer to a text within the limit has 3 MiB.
+func TestTooLongTextNeedsNoLongBuffer(t *testing.T) {
+	tooLong := strings.Repeat(" ", 16<<20)
 	var before, after runtime.MemStats
 	runtime.ReadMemStats(&before)
 	if _, err := guard.Canonical([]byte(tooLong)); !errors.Is(err, guard.ErrTooLong) {
