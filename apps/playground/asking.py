@@ -21,7 +21,8 @@ MOST_REASONS, MOST_LEFT = 100, 20
 def refusal_part(sent_question, line):
     """The part of an answer that shows a refusal. `sent_question` is a `SentQuestion` or a `SentCase`, and `line` the line of the refusal, as
     `refused sequence 3 Shape`."""
-    return {"kind": "refused", "line": line, "shown": sent_question.shown(line), "title": REFUSED.get(line, ""), "faults": sent_question.fault(line)}
+    return {"kind": "refused", "line": line, "shown": sent_question.line_for_page(line), "title": REFUSED.get(line, ""),
+            "faults": sent_question.faults_by_box(line)}
 
 
 def labels_of(engine, sent):

@@ -80,9 +80,9 @@ class SentQuestion:
                            "madeUp": signed.value == string(VALUE), "counts": place not in self.question.refused_signatures})
         return listed
 
-    def fault(self, line):
-        """What is shown at the box that the refusal `line` is about, with its places there, in a dictionary by the name of the box. Empty if it is
-        about no box."""
+    def faults_by_box(self, line):
+        """What is shown at the box that the refusal `line` is about, with its places there, in a dictionary by the name of that one box. Empty if the
+        refusal is about no box."""
         # (the word after `refused`, as in `refused sequence 3 Shape`)
         word = line.split()[1]
         # (a fault of the form that is named after no part is one of the access list)
@@ -95,7 +95,7 @@ class SentQuestion:
         in_box = places(octets, line)
         if name == "sequence":
             in_box = [(self.sequence.offset_as_typed(at), with_certificate_numbers(why, self.heads)) for at, why in in_box]
-        return {name: {"line": line, "shown": self.shown(line), "places": places_for_page(self.box[name], in_box)}}
+        return {name: {"line": line, "shown": self.line_for_page(line), "places": places_for_page(self.box[name], in_box)}}
 
     @functools.cached_property
     def heads(self):
@@ -103,13 +103,13 @@ class SentQuestion:
         # (a signature that is added begins with a space)
         return heads_in(self.question.sequence, [at + 1 for at, _ in self.sequence.added])
 
-    def shown(self, line):
+    def line_for_page(self, line):
         """The line of a refusal as the page writes it: a certificate has its number among the certificates, and not among all items."""
         return with_certificate_numbers(line, self.heads)
 
     def fault_of_words(self, name, line):
-        """What is shown at the box `name`, `request` or `at`, for a refusal. What is typed there is no S-expression, so its first line is the
-        place."""
+        """What is shown at the box `name`, `request` or `at`, for the refusal `line`. What is typed there is no S-expression, so its whole first line
+        is the place."""
         typed = self.box["at"] if name == "at" else b"\n".join(self.words)
         if name == "at":
             why = f"{'this is no moment' if typed else 'the moment is missing'}; choose a date and a time of day, in UTC"
@@ -160,11 +160,11 @@ class SentCase:
         """The words that the items of the sequence begin with, as octets."""
         return heads_in(self.octets)
 
-    def shown(self, line):
+    def line_for_page(self, line):
         """The line of a refusal as the page writes it: a certificate has its number among the certificates, and not among all items."""
         return with_certificate_numbers(line, self.heads)
 
-    def fault(self, line):
+    def faults_by_box(self, line):
         """What is shown at the box of the case for the refusal `line`, with its places there, in a dictionary by the name of the box."""
         in_box = [(at, with_certificate_numbers(why, self.heads)) for at, why in places(self.octets, line)]
-        return {"case": {"line": line, "shown": self.shown(line), "places": places_for_page(self.octets, in_box)}}
+        return {"case": {"line": line, "shown": self.line_for_page(line), "places": places_for_page(self.octets, in_box)}}
