@@ -62,7 +62,8 @@ class Labels:
         return self.hashes.get((principal[1], principal[2]), principal) if principal[0] == b"hash" else principal
 
     def name_of(self, subject):
-        """What a principal or a name is called: its own label, else for a hash that of its key, else a short form."""
+        """What `subject`, a principal or a name, is called: by its label, else for a hash by that of its key, else by a short form. A name without a
+        label is called by its strings and by what its principal is called."""
         label = self.of_values.get(canonical(subject))
         if label:
             return label
@@ -70,7 +71,7 @@ class Labels:
             names = [name.decode(errors="replace") for name in subject[2:]]
             return f"{' '.join(names)} of {self.name_of(subject[1])}"
         key = self.key_named_by(subject)
-        return self.name_of(key) if key is not subject else short(subject)
+        return self.name_of(key) if key is not subject else short_form(subject)
 
 
 def field(value, head):
@@ -78,7 +79,7 @@ def field(value, head):
     return next((part for part in value[1:] if isinstance(part, list) and part[:1] == [head]), None)
 
 
-def short(principal):
+def short_form(principal):
     """A short form of a key or a hash: the only part of a key if that is plain text, else its algorithm and the beginning of a digest in
     hexadecimal."""
     if principal[0] == b"hash":

@@ -92,7 +92,7 @@ class Handler(http.server.BaseHTTPRequestHandler):
         if name not in self.server.jobs:
             self.refuse(http.HTTPStatus.NOT_FOUND)
             return
-        sent = self.body()
+        sent = self.read_object()
         if sent is not None:
             # (a name that each opened page makes up, so that its new question can replace its old one)
             page = sent.get("page")
@@ -111,7 +111,7 @@ class Handler(http.server.BaseHTTPRequestHandler):
             return None
         return name or default
 
-    def body(self):
+    def read_object(self):
         """Reads the object that was sent. If its length is missing or too large, or it is no object in JSON, refuses the request and returns None."""
         length = self.headers.get("Content-Length", "")
         if not length.isascii() or not length.isdigit() or "Transfer-Encoding" in self.headers:
