@@ -286,7 +286,7 @@ func TestFieldsToCover(t *testing.T) {
 	}
 }
 
-// A replacedKey signs by a private key, and returns a public key that is not that of it: a service that keeps keys may have replaced one.
+// A replacedKey signs by a private key, and returns the public key of another one: a service that keeps keys may have replaced its key.
 type replacedKey struct {
 	crypto.Signer
 	public crypto.PublicKey
@@ -546,8 +546,8 @@ func TestBodyByHTTP2(t *testing.T) {
 	}
 }
 
-// TestUnknownBodyIsNotSigned signs messages with a body, without one, and with one that HasBody or Content-Length announces, but that is nil. Those
-// with nil are BodyWithoutDigest, since their body is not known.
+// TestUnknownBodyIsNotSigned signs messages with a body, without one, and with one that HasBody or Content-Length announces, but that is nil. This
+// last kind is BodyWithoutDigest, since the body is not known.
 func TestUnknownBodyIsNotSigned(t *testing.T) {
 	signer := signers(t)[Ed25519]
 	for _, row := range []struct {
