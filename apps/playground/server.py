@@ -70,8 +70,8 @@ class Handler(http.server.BaseHTTPRequestHandler):
             raise
 
     def give_file(self):
-        """Answers with the file of the page that is asked for."""
-        name = self.name_asked("index.html")
+        """Answers with the file of the page that is asked for, or with status 404."""
+        name = self.name_asked(default="index.html")
         if name is None:
             return
         if name not in self.server.files:
@@ -81,11 +81,11 @@ class Handler(http.server.BaseHTTPRequestHandler):
         self.reply(http.HTTPStatus.OK, kind, octets)
 
     def do_job(self):
-        """Does the job that is asked for, and answers with its result in JSON."""
-        name = self.name_asked("")
+        """Does the job that is asked for, and answers with its result in JSON. Refuses a request from another page, with status 403, one for a job that
+        does not exist, with 404, and one whose body `read_object` refuses."""
+        name = self.name_asked(default="")
         if name is None:
             return
-        # (so that no other page of the browser can ask)
         if self.headers.get("Origin") not in self.server.origins or self.headers.get("Sec-Fetch-Site", "same-origin") != "same-origin":
             self.refuse(http.HTTPStatus.FORBIDDEN)
             return

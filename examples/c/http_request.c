@@ -641,7 +641,8 @@ bool http_request_read(char *head, struct http_field *fields, size_t most, struc
 }
 
 /* Null if a request proves a key at a time, in seconds since 1970. Otherwise the name of the refusal, or "memory". With null the proof is set, and
- * the nonce of the request is used up. The nonce is taken last, so that only the holder of the key can use it up. */
+ * the nonce of the request is used up. The nonce is taken last, so that only the holder of the key can use it up. It is kept as long as a signature
+ * that is accepted now can be accepted. */
 const char *http_request_refusal(const struct http_service *service, const struct http_request *request, long long now, struct http_proof *proof)
 {
     struct input input;

@@ -58,6 +58,7 @@ class Service:
 
     def __init__(self, store, policy=spki.Policy.STRICT, limits=LIMITS):
         self.store, self.policy, self.limits = store, policy, limits
+        # (a guard of no entries, which reads a question before its entries are known)
         self.no_entries = guard_of([], policy, limits)
 
     def decide(self, question, verify):

@@ -96,12 +96,12 @@ func (p *Proof) Body(from io.Reader, most int64) ([]byte, error) {
 }
 
 // Request returns the proof of a request to a server of net/http, and uses up its nonce. The body stays unread: Proof.Body reads it. The error is
-// that of Message.
+// a Refusal, or one of Nonces.
 func (v *Verifier) Request(request *http.Request) (*Proof, error) {
 	return v.Message(MessageOf(request))
 }
 
-// Message returns the proof of a message, and uses up its nonce. The error is a Refusal, or one of Nonces.
+// Message returns the proof of a message, and uses up its nonce. The error is a Refusal, or one of Nonces: then the message proves no key.
 func (v *Verifier) Message(message Message) (*Proof, error) {
 	proof, err := v.Check(message)
 	if err == nil {
