@@ -81,8 +81,8 @@ class Handler(http.server.BaseHTTPRequestHandler):
         self.reply(http.HTTPStatus.OK, kind, octets)
 
     def do_job(self):
-        """Does the job that is asked for, and answers with its result in JSON. Refuses a request from another page, with status 403, one for a job that
-        does not exist, with 404, and one whose body `read_object` refuses."""
+        """Does the job that is asked for, and answers with its result in JSON. Refuses a request from another page, with status 403, one for a job
+        that does not exist, with 404, and one whose body `read_object` refuses."""
         name = self.name_asked(default="")
         if name is None:
             return
