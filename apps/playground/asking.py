@@ -132,8 +132,9 @@ def times(engine, sent):
 
 
 def tags(engine, sent):
-    """Yields which of the two tags that the page sent contains the request that it sent. Then a hint, if the request was probably to be more than
-    one string, and the intersection of the tags, if a guard takes both. If the request cannot be read, yields why, for each tag, and no more."""
+    """Yields for each of the two tags that the page sent, `first` and `second`, whether it contains the request that the page sent. Then a hint, if
+    the request was probably meant as more than one string, and the intersection of the tags as `both`, if a guard accepts both. If the request cannot
+    be read, yields why, for each tag, and no more."""
     try:
         words = words_of(sent)
     except Refused as why:

@@ -88,7 +88,8 @@ def issuer_of(certificate):
 
 
 def subject_of(certificate):
-    """The subject of a certificate. A relative name is one of the issuer's principal."""
+    """The subject of a certificate: a principal or a name. A relative name, `(name NAME ..)`, gets the principal of the issuer: `(name PRINCIPAL
+    NAME ..)`."""
     subject, issuer = field(certificate, b"subject")[1], issuer_of(certificate)
     if subject[0] == b"name" and isinstance(subject[1], bytes):
         return [b"name", issuer[1] if issuer[0] == b"name" else issuer, *subject[1:]]

@@ -100,8 +100,8 @@ static int six_bits(unsigned char octet)
     return place ? (int)(place - digits) : -1;
 }
 
-/* Decodes base64 with its padding into `octets`, and sets `length` to their number. False if the text is none, is not the one text of its octets, or
- * has more octets than `room`. In the code, the lowest `count` of `bits` are those that are not in an octet yet, and the others are 0. */
+/* Decodes base64 with its padding into `octets`, and sets `length` to their number. False if the text is no base64, is not the one text of its
+ * octets, or has more octets than `room`. In the code, the lowest `count` of `bits` are those that are not in an octet yet, and the others are 0. */
 static bool decode_base64(struct spki_text text, unsigned char *octets, size_t room, size_t *length)
 {
     const unsigned char *in = text.octets;

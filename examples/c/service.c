@@ -40,7 +40,7 @@ static void read_head(int client, char head[MOST_HEAD])
     }
 }
 
-/* Listens on a free port of loopback, prints it, and answers clients one by one. The exit status is 2 without a port or list, and 1 later on. */
+/* Listens on a free port of loopback, prints it, and answers clients one by one. The exit status is 2 without a port or list, 1 if it ends later. */
 int main(int argc, char **argv)
 {
     static char list[MOST_LIST + 1], head[MOST_HEAD]; /* (the guard refuses a list that fills it: one octet more than any may have) */

@@ -181,7 +181,8 @@ def requests(story):
 
 
 def try_request(service, remark, request, wanted):
-    """Asks a service, a `Service`, by a row of `requests`. Prints the refusal or that a key is proved, and returns whether that is as wanted."""
+    """Asks a service, a `Service`, by what `requests` yields: the arguments behind it. Prints the name of the refusal, or that a key is proved, and
+    returns whether that is as expected."""
     try:
         service.ask(*request, NOON)
         name = None
