@@ -90,7 +90,7 @@ class Engine:
         answer = self.answer(name, text)
         if answer.startswith(b"refused "):
             raise Refused(answer.decode().rstrip("\n"))
-        # (`spki` adds no line feed to a canonical form, which may end in one of its own)
+        # (`spki` adds no line feed to a canonical form, whose last octet may be a line feed)
         return answer if name == "canonical" else answer.removesuffix(b"\n")
 
 
