@@ -107,9 +107,9 @@ class Workers:
         self.busy, self.idle = {}, [Worker(wanted, seconds) for _ in range(spare)]
 
     def answer(self, page, name, sent):
-        """The answer to a job of a page, a dictionary. `page` is a name that the opened page has made up for itself, `name` that of the job, and `sent`
-        the object that the page sent. Ends the job of the same name that the page has under way. Waits for a free process: if none is within
-        `seconds`, the answer is a notice."""
+        """The answer to a job of a page, a dictionary. `page` is a name that the opened page has made up for itself, `name` that of the job, and
+        `sent` the object that the page sent. Ends the job of the same name that the page has under way. Waits for a free process: if none is free
+        within `seconds`, the answer is a notice."""
         with self.lock:
             replaced = self.busy.pop((page, name), None)
             if replaced is not None:

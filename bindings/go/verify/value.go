@@ -39,8 +39,8 @@ func ed25519Value(value []byte) ([]byte, bool) {
 	return append(append(make([]byte, 0, 2*half), r...), s...), true
 }
 
-// rsaValue returns the number of a signature by RSA, with as many octets as the modulus, and whether the value has this form. The value may have fewer
-// or more octets 00 in front. The number must be above 0 and below the modulus: Go 1.19 does not test the latter.
+// rsaValue returns the number of a signature by RSA, with as many octets as the modulus, and whether the value has this form. The value may have
+// fewer or more octets 00 in front. The number must be above 0 and below the modulus: Go 1.19 does not test the latter.
 func rsaValue(value []byte, public *rsa.PublicKey) ([]byte, bool) {
 	text := reader{rest: value}
 	if len(value) > mostOctets || !text.trySkip(beforeRSA) {
@@ -54,8 +54,8 @@ func rsaValue(value []byte, public *rsa.PublicKey) ([]byte, bool) {
 	return s.FillBytes(make([]byte, public.Size())), true
 }
 
-// ecdsaValue returns the numbers r and s of a signature by ECDSA with a curve, and whether the value has this form, and both are above 0 and below the
-// order of the curve. If not, the numbers must not be used.
+// ecdsaValue returns the numbers r and s of a signature by ECDSA with a curve, and whether the value has this form, and both are above 0 and below
+// the order of the curve. If not, the numbers must not be used.
 func ecdsaValue(value []byte, curve elliptic.Curve) (*big.Int, *big.Int, bool) {
 	first, second, ok := readPair(value, beforeECDSA)
 	r, s, order := new(big.Int).SetBytes(first), new(big.Int).SetBytes(second), curve.Params().N
