@@ -25,7 +25,7 @@ SECONDS = 120
 
 
 class Home:
-    """An empty home in which the tools are run."""
+    """An empty home, a folder of its own for HOME, in which the tools of lsh and nettle are run."""
 
     def __init__(self, folder):
         """Makes the home in a folder, which must be empty: with a seed of random numbers, which lsh's tools need."""
@@ -38,12 +38,13 @@ class Home:
         os.close(seed)
 
     def run(self, words, text=b""):
-        """What a program writes to its standard output, run in the home with `text` as its input. Its status is not looked at."""
+        """The octets that a program writes to its standard output, run in the home with `text` as its input. `words` are its name and arguments. Its
+        status is not looked at: `main` counts an empty output as a failure."""
         return subprocess.run(words, input=text, stdout=subprocess.PIPE, stderr=subprocess.DEVNULL, cwd=self.folder, env=self.settings,
                               timeout=SECONDS).stdout
 
     def file(self, name):
-        """What is in a file of the home."""
+        """The octets of a file of the home."""
         with open(os.path.join(self.folder, name), "rb") as file:
             return file.read()
 
@@ -56,7 +57,8 @@ class Home:
         return {"as it was made": key, "private": self.file(name), "locked": self.file(f"{name}.locked"), "public": self.file(f"{name}.pub")}
 
     def authorize(self, name):
-        """Has `lsh-authorize` put the public key of `name` on its list. Returns the name of the file that it makes there, and what is in it."""
+        """Has `lsh-authorize` put the public key of `name`, as `key_files` has it, on its list, a folder. Returns the name of the file that it makes
+        there, and its octets."""
         folder = os.path.join(".lsh", "authorized_keys_sha1")
         path = os.path.join(self.folder, folder)
         before = set(os.listdir(path)) if os.path.exists(path) else set()
@@ -71,7 +73,8 @@ def spki(command, text):
 
 
 def check(access_list, key, request=b"login", policy=b""):
-    """The answer of `spki check` on a case without certificates, as a line. The parts are octets of texts in any form but transport form."""
+    """The answer of `spki check` on a case without certificates, as a line. The parts are octets of texts in any form but transport form. `policy` is
+    `(policy strict)`, or empty to let SHA-1 name keys."""
     case = b"(case %s (accepted) (sequence) (key %s) (request %s) (at \"2026-03-01_12:00:00\") %s)"
     return spki("check", case % (access_list, key, request, policy)).decode().strip()
 
@@ -83,7 +86,7 @@ def list_of_hash(algorithm, digest):
 
 def tries_of_keys(home):
     """Yields what is tried with an RSA and a DSA key of `home`, a `Home`: a remark, the actual and the expected value. For RSA, the option -l of
-    lsh-keygen is the number of bits, and for DSA a level of NIST: 0 has 512 bits."""
+    lsh-keygen is the number of bits, and for DSA a level of NIST: 0 has 512 bits. Short keys are made quickly, and nothing here is signed."""
     for name, options in (("RSA", ("-l", "1024")), ("DSA", ("-a", "dsa", "-l", "0"))):
         files = home.key_files(name, options)
         for kind, text in files.items():
@@ -107,13 +110,15 @@ def tries_of_keys(home):
 
 
 def tries_of_captured_list(home):
-    """Yields what is tried with the list of hosts that lsh wrote into lsh/captured: a remark, the actual and the expected output."""
+    """Yields what is tried with the list of hosts that lsh wrote into lsh/captured: a remark, the actual and the expected output. Its one entry has
+    the field `(subject KEY)`, where an access list of `spki` has the key itself."""
     with open(os.path.join(HERE, "lsh", "captured"), "rb") as file:
         text = file.read()
     # (a comment of lsh is in front of the list, which is in transport form)
     braces = text[text.index(b"{"):]
     yield "list: a remark in front is refused", spki("canonical", text), b"refused form Bad 1\n"
     yield "list: behind it, read as sexp-conv reads it", spki("canonical", braces), home.run(["sexp-conv", "-s", "canonical"], braces)
+    # (`(acl (entry (subject KEY) TAG))`)
     _, (_, (_, key), tag) = read(spki("canonical", braces))
     request = canonical(tag[1])
     yield "list: a subject in a list of its own is refused", check(spki("canonical", braces), canonical(key), request), "refused acl 1 Shape"
@@ -122,8 +127,8 @@ def tries_of_captured_list(home):
 
 
 def main():
-    """Tries everything in an empty home, and prints a line for each try. Returns the exit status: 0 if all is as wanted, otherwise 1.
-    Ends with 1 too if one of TOOLS is not there."""
+    """Tries everything in an empty home, and prints a line for each try. Returns the exit status: 0 if each actual value is the expected one,
+    otherwise 1. Ends with 1 too if one of TOOLS is not there."""
     for program in TOOLS:
         if shutil.which(program) is None:
             sys.exit(f"{program} is not there")
@@ -132,7 +137,7 @@ def main():
         home = Home(folder)
         for tries in (tries_of_keys, tries_of_captured_list):
             for remark, actual, wanted in tries(home):
-                # (that two tools write nothing is no agreement)
+                # (two tools that both write nothing, as when they fail, do not agree)
                 is_good = actual == wanted and bool(actual)
                 print(f"{'as wanted' if is_good else 'OTHERWISE':<10} {remark}{'' if is_good else f': {actual!r}, and not {wanted!r}'}")
                 passed, failed = passed + is_good, failed + (not is_good)

@@ -27,7 +27,7 @@ FORMS = ("canonical", "advanced", "transport")
 SYNTAXES = ("canonical", "advanced", "hex", "transport")
 SECONDS = 20
 
-# What each program makes of the texts that they are known to differ on: its canonical form, None where it refuses the text.
+# The files of `texts` on which both are known to differ: the canonical form by `spki`, and that by `sexp-conv`. None where one refuses the text.
 KNOWN = {
     "braces-and-more.tsexp": (None, b"(1:a)(1:a)"),
     "braces-inside.sexp": (None, b"(1:a1:a)"),
@@ -53,7 +53,7 @@ KNOWN = {
 }
 
 
-def by_spki(form, text):
+def written_by_spki(form, text):
     """What `spki` writes for a text in a form of FORMS. None if it refuses the text. Ends the script if it does neither."""
     status, output = run(PROGRAM, form, text, SECONDS)
     if status not in (0, 2):
@@ -61,8 +61,8 @@ def by_spki(form, text):
     return output if status == 0 else None
 
 
-def by_peer(syntax, text):
-    """What `sexp-conv` writes for a text in a syntax of SYNTAXES. None if it gives up. Ends the script if it does not end."""
+def written_by_peer(syntax, text):
+    """What `sexp-conv` writes for a text in a syntax of SYNTAXES. None if it ends with another status than 0. Ends the script if it does not end."""
     try:
         done = subprocess.run([PEER, "-s", syntax], input=text, stdout=subprocess.PIPE, stderr=subprocess.DEVNULL, timeout=SECONDS)
     except subprocess.TimeoutExpired:
@@ -73,7 +73,8 @@ def by_peer(syntax, text):
 def there_and_back(write, read, forms, text):
     """A list of truth values, one for each of `forms`: whether `read` makes the same canonical form of what `write` writes in this form.
 
-    `write` is `by_spki` with FORMS or `by_peer` with SYNTAXES, and `read` the other one. `write` must not refuse the text.
+    `write` is `written_by_spki` with FORMS or `written_by_peer` with SYNTAXES, and `read` is the other function. `write` must give a canonical form
+    of the text. Another form that it refuses counts as false.
     """
     canonical = write("canonical", text)
     results = []
@@ -84,22 +85,24 @@ def there_and_back(write, read, forms, text):
 
 
 def printed(octets):
-    """A canonical form as it is printed: its octets, or from 24 octets on only their number. None is that of a text that was refused."""
+    """A canonical form as it is printed: its octets, or from 24 octets on only their number, so that a line stays short. None is that of a text that
+    was refused."""
     if octets is None:
         return "refused"
     return repr(octets)[2:-1] if len(octets) < 24 else f"{len(octets)} octets"
 
 
 def compare(name, text):
-    """Compares both programs on `text`, the octets of the file `name`. Returns the line that is printed about it, and whether it is as wanted: both
-    read it alike, and each reads what the other one writes; or they differ as KNOWN says, and `sexp-conv` reads what `spki` writes."""
-    ours, theirs = by_spki("canonical", text), by_peer("canonical", text)
-    results = there_and_back(by_spki, by_peer, FORMS, text) if ours is not None else []
+    """Compares both programs on `text`, the octets of the file `name`. Returns the line that is printed about it, and whether the result is the
+    expected one: both read it alike, and each reads what the other one writes; or they differ as KNOWN says, and `sexp-conv` reads what `spki`
+    writes."""
+    ours, theirs = written_by_spki("canonical", text), written_by_peer("canonical", text)
+    results = there_and_back(written_by_spki, written_by_peer, FORMS, text) if ours is not None else []
     if name in KNOWN:
         verdict = "known" if (ours, theirs) == KNOWN[name] else "OTHER THAN KNOWN"
     else:
         verdict = "same" if ours is not None and ours == theirs else "DIFFERS"
-        results += there_and_back(by_peer, by_spki, SYNTAXES, text) if theirs is not None else []
+        results += there_and_back(written_by_peer, written_by_spki, SYNTAXES, text) if theirs is not None else []
     if not all(results):
         verdict += ", LOST ON THE WAY"
     values = printed(ours) if ours == theirs else f"spki: {printed(ours)}; sexp-conv: {printed(theirs)}"

@@ -31,6 +31,7 @@ class NotDrawn(Exception):
 def answer(program, command, text):
     """The octets that the program, a path, writes for a command and a text. Raises `NotDrawn` if it refuses the text, fails or writes nothing."""
     status, lines = run(program, command, text)
+    # (the status is 0 for a yes or another answer, and 1 for a no)
     if status not in (0, 1) or not lines:
         raise NotDrawn(lines.decode(errors="replace").strip() or f"{program} {command} ended with status {status} and no answer")
     return lines
@@ -60,8 +61,8 @@ def quoted(lines):
 
 
 def dot_of(drawing):
-    """Yields the lines of a drawing in the language of Graphviz. A subject is an ellipse. The access list and the request, which have a colour, are
-    boxes."""
+    """Yields the lines of a drawing, a `drawing.Drawing`, in the language of Graphviz. A subject is an ellipse. The access list and the request,
+    which have a colour, are boxes."""
     # (the names of the shapes are octets that Graphviz could not read)
     names = {identity: f"n{place}" for place, identity in enumerate(drawing.shapes)}
     yield from ("digraph chain {", "  rankdir=LR;", "  node [shape=ellipse, fontsize=11];", "  edge [fontsize=10];")

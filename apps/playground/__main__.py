@@ -41,12 +41,12 @@ def parse_options():
     return parser.parse_args()
 
 
-def start_file(name):
-    """The octets of `start.json`, by which the page begins: the examples, the texts of the other boxes, how many octets a question may have, and
-    `name`, the name of the engine that decides."""
+def start_json(engine_name):
+    """The octets of `start.json`, by which the page begins: the examples, the first texts of the boxes in its other panels, how many octets a
+    question may have, and the name of the engine that decides."""
     with open(os.path.join(TOP, "examples", "guide", "granted.sexp"), encoding="utf-8") as file:
         others = {**OTHERS, "case": file.read()}
-    return json.dumps({"engine": name, "examples": EXAMPLES, "others": others, "mostOctets": MOST_BODY}).encode()
+    return json.dumps({"engine": engine_name, "examples": EXAMPLES, "others": others, "mostOctets": MOST_BODY}).encode()
 
 
 def print_or_say_why(text):
@@ -63,7 +63,8 @@ def print_or_say_why(text):
 
 def main():
     """Serves the page until it is ended by ctrl-c or SIGTERM. The first line that it prints is the address, which a program that starts it reads, and
-    the second says what decides. Returns the exit status: 0, or 2 if it cannot start or print these lines, and says why."""
+    the second says what decides. Returns the exit status: 0, or 2 if it cannot start or cannot print these lines. Then it prints why to standard
+    error. Wrong options end the process with status 2 too."""
     options = parse_options()
     try:
         engine = choose_engine(options.engine)
@@ -72,7 +73,7 @@ def main():
         return 2
     workers = Workers(options.engine, options.seconds)
     try:
-        server = Server(options.port, workers, JOBS, start_file(engine.name))
+        server = Server(options.port, workers, JOBS, start_json(engine.name))
     except (OSError, OverflowError) as why:
         print(f"port {options.port}: {why}", file=sys.stderr)
         workers.end()

@@ -1,6 +1,6 @@
-"""What the page asks, and the answers as it shows them. Each job yields its answer in parts, a decision before its explanation: a part is a
-dictionary, and its fields replace those of earlier parts. `engine` is the `Engine` that decides, `sent` the object that the page sent, and
-`sent_question` the question in it.
+"""What the page asks, and the answers as it shows them. A job is one kind of question, a function in JOBS. It yields its answer in parts, a decision
+before its explanation: a part is a dictionary, and its fields replace those of earlier parts. `engine` is the `Engine` that decides, `sent` the
+object that the page sent, and `sent_question` the question in it.
 
 The server ends the process of a job that takes too long, and keeps the parts that were yielded.
 """
@@ -10,7 +10,7 @@ from engine import PARTS, Question, Refused, string
 from given import MOST_LETTERS, SentQuestion, SentCase, text, words_of
 from labels import Labels
 from place import places, places_for_page
-from sentences import ONE_STRING, REFUSED, is_one_string_of_words, right_left, sentence_of, title
+from sentences import ONE_STRING, REFUSED, is_one_string_of_words, right_for_page, sentence_of, title
 from spki_cert_tool.sexp import laid_out, read
 from story import Story, reasons_of
 
@@ -21,11 +21,12 @@ MOST_REASONS, MOST_LEFT = 100, 20
 def refusal_part(sent_question, line):
     """The part of an answer that shows a refusal. `sent_question` is a `SentQuestion` or a `SentCase`, and `line` the line of the refusal, as
     `refused sequence 3 Shape`."""
-    return {"kind": "refused", "line": line, "shown": sent_question.shown(line), "title": REFUSED.get(line, ""), "faults": sent_question.fault(line)}
+    return {"kind": "refused", "line": line, "shown": sent_question.line_for_page(line), "title": REFUSED.get(line, ""),
+            "faults": sent_question.faults_by_box(line)}
 
 
 def labels_of(engine, sent):
-    """The labels of keys that the page sent."""
+    """The names of keys that the page sent, as `Labels`."""
     return Labels(engine, text(sent, "labels"))
 
 
@@ -65,9 +66,8 @@ def case(engine, sent):
 
 
 def decision_parts(sent_question, labels):
-    """Yields the decision of a question, then the reasons and the picture, then both again with the rights that remain, which they name. If the
-    library refuses to explain, a notice is the last part. `sent_question` is a `SentQuestion` or a `SentCase`. Raises `Refused` if the library
-    refuses to decide."""
+    """Yields the decision of a question, then the reasons and the picture, then both again, now with the rights that remain. If the library refuses
+    to explain, a notice is the last part. `sent_question` is a `SentQuestion` or a `SentCase`. Raises `Refused` if the library refuses to decide."""
     line = sent_question.check()
     yield {"kind": "yes" if line.startswith("yes") else "no", "line": line}
     acl, sequence, key, request, at = sent_question.values()
@@ -83,7 +83,7 @@ def decision_parts(sent_question, labels):
     except Refused as why:
         yield {"notice": f"The decision has no explanation here: {why.line}."}
         return
-    rights = [right_left(story, number, item, right) for (number, item), right in story.rights_left.items()]
+    rights = [right_for_page(story, number, item, right) for (number, item), right in story.rights_left.items()]
     yield {"rights": rights, **reasons_part(story, reasons, line)}
 
 
@@ -98,9 +98,11 @@ def reasons_part(story, reasons, line):
 def add_rights_left(sent_question, story, reasons, reduced):
     """Adds rights to `story.rights_left`. By an entry's number and None: the right that remains of it, from `reduced`, the lines of `reduce` in the
     order of the entries, for the entries of the first MOST_LEFT `reasons`, which go furthest. By the number of the first reason's entry and that of
-    the item that stops its chain: the right before that item, which the library is asked for. Raises `Refused`, with those before added."""
+    the item that stops its chain: the right before that item, which the library is asked for. Raises `Refused` if the library refuses that. The
+    rights that were added before stay."""
     value = sent_question.engine.value
     for reason in reasons[:MOST_LEFT]:
+        # (a line without `(five ..)` says what stops the chain: then no right remains)
         if reason.entry and "(five" in reduced[reason.entry - 1]:
             story.rights_left[reason.entry, None] = value(right_text(reduced[reason.entry - 1]))
     first = reasons[0] if reasons else None
@@ -130,8 +132,9 @@ def times(engine, sent):
 
 
 def tags(engine, sent):
-    """Yields which of the two tags that the page sent contains the request that it sent. Then a hint, if the request was probably to be more than
-    one string, and the intersection of the tags, if a guard takes both. If the request cannot be read, yields why, for each tag, and no more."""
+    """Yields for each of the two tags that the page sent, `first` and `second`, whether it contains the request that the page sent. Then a hint, if
+    the request was probably meant as more than one string, and the intersection of the tags as `both`, if a guard accepts both. If the request cannot
+    be read, yields why, for each tag, and no more."""
     try:
         words = words_of(sent)
     except Refused as why:
@@ -154,6 +157,7 @@ def containment(engine, tag, words):
     except Refused as why:
         return {"line": why.line, "places": places_for_page(tag, places(tag, why.line))}
     try:
+        # (PARTS has an empty sequence, the key of the entry, and some moment)
         answer = engine.lines(Question(acl, PARTS["sequence"], PARTS["key"], words, PARTS["at"]), "check")[0]
         return {"contains": answer != "no"}
     except Refused as why:

@@ -4,7 +4,7 @@ from labels import field
 from spki_cert_tool.sexp import on_one_line
 from story import issuer_of, subject_after, moment_of, subject_of, tag_of, window
 
-# What is written beside the arrow at which a chain stops, by the cause of the no.
+# What is written beside the arrow at which a chain stops, by the cause of the no, a word of `explain`.
 SHORT = {
     "KeyNotShown": "the key of its issuer is not shown", "DigestDiffers": "its signature has another digest",
     "SignerDiffers": "it is signed by another key than its issuer's", "NotAccepted": "its signature does not count",
@@ -49,21 +49,21 @@ class Chain:
             self.add_box("subject", self.story.labels.name_of(subject), on_one_line(subject), state=state)
         self.subject = subject
 
-    def begin(self, number):
-        """Adds the access list and one of its entries, by its number from 1."""
+    def add_entry(self, number):
+        """Adds the box of the access list, and the arrow of one of its entries, by its number from 1, to the entry's subject."""
         entry = self.story.entries[number - 1]
         count = len(self.story.entries)
         self.add_box("list", "Access list", "1 entry" if count == 1 else f"{count} entries")
         self.steps.append(arrow("plain", *lines_beside(f"entry {number}", entry), whole=on_one_line(entry)))
         self.add_subject(entry[1])
 
-    def follow(self, reason):
-        """Adds the certificates up to the one that stops the chain, which is `reason.item`, or all if none does."""
+    def add_certificates(self, reason):
+        """Adds the certificates up to the one that stops the chain, whose number among all items is `reason.item`, or all if that is None."""
         for number, item in enumerate(self.story.items, 1):
             if item[0] != b"cert" or (reason.item and number > reason.item):
                 continue
             is_last = number == reason.item
-            self.add_certificate(number, item, reason.word if is_last else None, self.story.left(reason) if is_last else None)
+            self.add_certificate(number, item, reason.word if is_last else None, self.story.remaining_right(reason) if is_last else None)
 
     def add_certificate(self, number, item, word, before):
         """Adds a certificate, which is item `number` from 1: an arrow to its subject. If it does not stop the chain, `word` and `before` are None.
@@ -75,7 +75,7 @@ class Chain:
             self.steps.append(arrow("gap", word, SHORT[word]))
         if word in APART or self.subject is None:
             self.add_subject(issuer)
-        lines = lines_beside(f"certificate {self.story.number(number)}", item)
+        lines = lines_beside(f"certificate {self.story.certificate_number(number)}", item)
         # (a certificate that defines a name has no tag; its second line is which name)
         if issuer[0] == b"name":
             lines[1] = f"defines {self.story.labels.name_of(issuer)}"
@@ -86,9 +86,9 @@ class Chain:
         self.steps.append(arrow(state, *why, *lines, whole=on_one_line(item)))
         self.add_subject(subject_after(self.subject or issuer, item) if state == "plain" else subject_of(item), "faint" if word else "plain")
 
-    def end(self, reason, left):
+    def add_request(self, reason, right):
         """Adds the box of the request, and the arrow to it, which says whether the chain of `reason` grants it. For NotTheKey a gap and the box
-        of the key that asks come first. `left` is the right at the end of the chain, or None if it is not known."""
+        of the key that asks come first. `right` is the right that remains at the end of the chain, or None if it is not known."""
         story, word = self.story, reason.word
         is_granted = word == "grants"
         if word == "NotTheKey":
@@ -96,9 +96,9 @@ class Chain:
             self.add_subject(story.key)
             self.steps.append(arrow("plain", "requests"))
         else:
-            right = [] if left is None else [f"left: {tag_of(left)}", window(left)]
+            lines = [] if right is None else [f"left: {tag_of(right)}", window(right)]
             why = f"yes, entry {reason.entry}" if is_granted else f"{word}: {SHORT[word]}"
-            self.steps.append(arrow("good" if is_granted else "bad", why, *right, whole=on_one_line(left) if left else ""))
+            self.steps.append(arrow("good" if is_granted else "bad", why, *lines, whole=on_one_line(right) if right else ""))
         state = "good" if is_granted else "plain" if word == "NotTheKey" else "bad"
         self.add_box("request", on_one_line(story.request), on_one_line(story.request), moment_of(story.at), state)
 
@@ -111,10 +111,10 @@ def chain(story, reason):
         drawn.add_box("list", "Access list", "0 entries", "no entries", "bad")
         return {"steps": drawn.steps, "behind": 0}
     if reason.entry:
-        drawn.begin(reason.entry)
-    drawn.follow(reason)
+        drawn.add_entry(reason.entry)
+    drawn.add_certificates(reason)
     if reason.item is None:
-        drawn.end(reason, story.left(reason))
+        drawn.add_request(reason, story.remaining_right(reason))
     behind = sum(item[0] == b"cert" for item in story.items[reason.item:]) if reason.item else 0
     return {"steps": without_middle(drawn.steps), "behind": behind}
 

@@ -26,9 +26,9 @@ from spki_cert_tool.sexp import canonical, read  # noqa: E402
 COMMANDS = ("canonical", "advanced", "transport", "intersect", "reduce", "check", "explain")
 # The limits of a guard on each question. A list is bounded by what the server takes.
 MOST_OCTETS, MOST_NODES = 65_536, 1_000_000
-# How many texts or questions are kept with what was made of them.
+# How many texts or questions an engine keeps with its answers, for the next keystroke.
 CACHE_SIZE = 32
-# The parts in the order in which they are read, each with a text that can be read, in canonical form.
+# The parts of a question besides the access list, in the order in which they are read, each with a text that can be read, in canonical form.
 PARTS = {"sequence": b"(8:sequence)", "key": b"(10:public-key(4:test7:anybody))", "request": b"1:a", "at": b"19:2000-01-01_00:00:00"}
 
 
@@ -46,7 +46,7 @@ class Question(NamedTuple):
 
 
 class Refused(Exception):
-    """The library or the program refuses a text: `line` is its line, which begins with `refused`. `labels` raises it with a remark of its own."""
+    """The library or the program refuses a text: `line` is its line, which begins with `refused`. labels.py raises it with a remark as `line`."""
 
     def __init__(self, line):
         super().__init__(line)
@@ -90,7 +90,7 @@ class Engine:
         answer = self.answer(name, text)
         if answer.startswith(b"refused "):
             raise Refused(answer.decode().rstrip("\n"))
-        # (`spki` adds no line feed to a canonical form, which may end in one of its own)
+        # (`spki` adds no line feed to a canonical form, whose last octet may be a line feed)
         return answer if name == "canonical" else answer.removesuffix(b"\n")
 
 
@@ -140,7 +140,7 @@ class ByLibrary(Engine):
             raise Refused(why.line) from None
 
     def signed(self, question):
-        """The signatures on which the decision depends, in the order of the certificates. Raises `Refused`."""
+        """The signatures on which the decision depends, each a `Signed`, in the order of the certificates. Raises `Refused`."""
         return self.ask(question, lambda asked: [Signed(signature.key, signature.message, signature.value) for signature in asked.signatures()])
 
     def lines(self, question, command):
@@ -196,15 +196,17 @@ class ByProgram(Engine):
                 # (a guard reads the parts one after the other, so a wrong value in an earlier part is refused first. `check` looks for that, with
                 # texts of PARTS, which can be read, in place of this part and the later ones)
                 readable = list(PARTS.values())[len(canonical_texts):]
-                self.command("check", case_text(acl, *canonical_texts, *readable, (), question.is_strict))
+                self.command("check", case_text(acl, *canonical_texts, *readable, accepted=(), is_strict=question.is_strict))
                 raise Refused(why.line.replace(" form ", f" {name} ", 1)) from None
         return acl, *canonical_texts
 
     def list_signed(self, question):
-        """The signatures on which the decision depends, in the order of the certificates, up to the first that is not right. Raises `Refused`."""
+        """The signatures on which the decision depends, in the order of the certificates, up to the first that has a fault: its issuer's key is not
+        shown, or its digest or signer is another one. Raises `Refused`."""
         # (raises `Refused` if a part is wrong, so what follows may take the parts apart)
-        self.answer_of_case(question, ())
-        items, right = [item for item in self.value(question.sequence)[1:] if item[0] != b"do"], []
+        self.answer_of_case(question, accepted=())
+        # (an operation `(do ..)` may be between a certificate and its signature)
+        items, signatures = [item for item in self.value(question.sequence)[1:] if item[0] != b"do"], []
         keys = [item for item in items if item[0] == b"public-key"]
         # (each item with the next one: that of a certificate is its signature)
         for certificate, signature in zip(items, items[1:]):
@@ -213,8 +215,8 @@ class ByProgram(Engine):
             signed = signed_by(certificate, signature, keys, question.is_strict)
             if signed is None:
                 break
-            right.append(signed)
-        return right
+            signatures.append(signed)
+        return signatures
 
     def answer_of_case(self, question, accepted, command="check"):
         """The answer of a command to the case of a question, in which the signatures `accepted`, each a `Signed`, are valid. Raises `Refused`."""
@@ -232,6 +234,7 @@ def signed_by(certificate, signature, keys, is_strict):
     Certificate, signature and `keys`, which are those of the sequence, are values: a list is a `list`, and a string is `bytes`."""
     issuer = next(field[1] for field in certificate[1:] if field[0] == b"issuer")
     key, message = key_of(issuer[1] if issuer[0] == b"name" else issuer, keys, is_strict), canonical(certificate)
+    # (`(signature (hash ALGORITHM DIGEST ..) SIGNER VALUE)`)
     _, (_, algorithm, digest, *_), signer, value = signature
     is_right = key is not None and hashlib.new(algorithm.decode(), message).digest() == digest and names(signer, key, is_strict)
     return Signed(canonical(key), message, canonical(value)) if is_right else None
@@ -252,15 +255,15 @@ def names(principal, key, is_strict):
     return is_allowed and hashlib.new(principal[1].decode(), canonical(key)).digest() == principal[2]
 
 
-def row(signed):
-    """The row `(by KEY (hash sha256 DIGEST) VALUE)` of the part `accepted` of a case, which says that this signature is valid."""
+def accepted_row(signed):
+    """The row `(by KEY (hash sha256 DIGEST) VALUE)` of the part `accepted` of a case, which says that this `Signed` is valid."""
     return b"(2:by" + signed.key + b"(4:hash6:sha256" + string(hashlib.sha256(signed.message).digest()) + b")" + signed.value + b")"
 
 
 def case_text(acl, sequence, key, request, at, accepted, is_strict):
     """The text of the case that has these parts, all in canonical form. `accepted` are the signatures that are valid in it, as `Signed`: one that is
-    there twice gets one row."""
-    rows = b"".join(dict.fromkeys(map(row, accepted)))
+    there twice gets one row. Without `is_strict` hashes by SHA-1 name keys too."""
+    rows = b"".join(dict.fromkeys(map(accepted_row, accepted)))
     policy = b"(6:policy6:strict)" if is_strict else b""
     return (b"(4:case" + acl + b"(8:accepted" + rows + b")" + sequence + b"(3:key" + key + b")(7:request" + request + b")(2:at" + at + b")"
             + policy + b")")

@@ -1,4 +1,5 @@
-"""A question as the page sent it, in boxes or as one case: how it is asked, and where a box is refused."""
+"""A question as the page sent it, in boxes or as one case: how it is asked, and where a box is refused. A box has one text of the question: the
+access list, the sequence, the key, the request or the moment. A case is one text with all of them."""
 import functools
 
 from completion import VALUE, with_signatures
@@ -37,8 +38,8 @@ def words_of(sent):
 
 class SentQuestion:
     """A question of separate boxes, as octets. `sent` is the object that the page sent, whose fields may have wrong types: a text that is no string
-    is taken as empty, and for a list of another type the class raises `Refused`. `sequence` has the signatures that the page made up too. Methods
-    that ask the engine raise `Refused`."""
+    counts as empty, and for a list of another type the class raises `Refused`. `sequence` is a `SignedText`, which has the signatures that the page
+    made up too. Methods that ask the engine raise `Refused`."""
 
     def __init__(self, engine, sent):
         """`engine` is the `Engine` that decides. Raises `Refused` as the class says."""
@@ -49,7 +50,8 @@ class SentQuestion:
                                  sent.get("strict") is not False, refused)
 
     def values(self):
-        """The access list, the sequence, the key, the request and the moment, as values: a string is `bytes`, and a list a `list`."""
+        """The access list, the sequence, the key, the request and the moment, as values: a string is `bytes`, and a list a `list`. A request of one
+        string is this string."""
         value, question = self.engine.value, self.question
         request = self.words[0] if len(self.words) == 1 else list(self.words)
         return value(question.acl), value(question.sequence), value(question.key), request, self.box["at"]
@@ -67,20 +69,20 @@ class SentQuestion:
         return self.engine.lines(self.question._replace(sequence=canonical([b"sequence", *items])), "reduce")
 
     def signatures(self, labels):
-        """The signatures on which the decision depends, as the page lists them: who signed, the certificate, whether the page made the signature up,
-        and whether it counts. `labels` learns the keys of the certificates."""
-        rows = []
+        """The signatures on which the decision depends, as the page lists them, each a dictionary: who signed, the certificate, whether the page made
+        the signature up, and whether it counts. `labels`, a `Labels`, learns the keys of the certificates."""
+        listed = []
         for place, signed in enumerate(self.engine.signed(self.question)):
             # (the message that is signed is the certificate)
             certificate = read(signed.message)
             labels.learn(certificate)
-            rows.append({"by": labels.name_of(read(signed.key)), "says": on_one_line(certificate)[:MOST_LETTERS],
-                         "madeUp": signed.value == string(VALUE), "counts": place not in self.question.refused_signatures})
-        return rows
+            listed.append({"by": labels.name_of(read(signed.key)), "says": on_one_line(certificate)[:MOST_LETTERS],
+                           "madeUp": signed.value == string(VALUE), "counts": place not in self.question.refused_signatures})
+        return listed
 
-    def fault(self, line):
-        """What is shown at the box that the refusal `line` is about, with its places there, in a dictionary by the name of the box. Empty if it is
-        about no box."""
+    def faults_by_box(self, line):
+        """What is shown at the box that the refusal `line` is about, with its places there, in a dictionary by the name of that one box. Empty if the
+        refusal is about no box."""
         # (the word after `refused`, as in `refused sequence 3 Shape`)
         word = line.split()[1]
         # (a fault of the form that is named after no part is one of the access list)
@@ -93,21 +95,21 @@ class SentQuestion:
         in_box = places(octets, line)
         if name == "sequence":
             in_box = [(self.sequence.offset_as_typed(at), with_certificate_numbers(why, self.heads)) for at, why in in_box]
-        return {name: {"line": line, "shown": self.shown(line), "places": places_for_page(self.box[name], in_box)}}
+        return {name: {"line": line, "shown": self.line_for_page(line), "places": places_for_page(self.box[name], in_box)}}
 
     @functools.cached_property
     def heads(self):
-        """The words that the items of the sequence begin with. None for one that the page made up."""
+        """The words that the items of the sequence begin with, as octets. None for a signature that the page made up."""
         # (a signature that is added begins with a space)
         return heads_in(self.question.sequence, [at + 1 for at, _ in self.sequence.added])
 
-    def shown(self, line):
-        """A refusal as the page writes it: with the number of a certificate among the certificates."""
+    def line_for_page(self, line):
+        """The line of a refusal as the page writes it: a certificate has its number among the certificates, and not among all items."""
         return with_certificate_numbers(line, self.heads)
 
     def fault_of_words(self, name, line):
-        """What is shown at the box `name`, `request` or `at`, for a refusal. What is typed there is no S-expression, so its first line is the
-        place."""
+        """What is shown at the box `name`, `request` or `at`, for the refusal `line`. What is typed there is no S-expression, so its whole first line
+        is the place."""
         typed = self.box["at"] if name == "at" else b"\n".join(self.words)
         if name == "at":
             why = f"{'this is no moment' if typed else 'the moment is missing'}; choose a date and a time of day, in UTC"
@@ -155,14 +157,14 @@ class SentCase:
 
     @functools.cached_property
     def heads(self):
-        """The words that the items of the sequence begin with."""
+        """The words that the items of the sequence begin with, as octets."""
         return heads_in(self.octets)
 
-    def shown(self, line):
-        """A refusal as the page writes it: with the number of a certificate among the certificates."""
+    def line_for_page(self, line):
+        """The line of a refusal as the page writes it: a certificate has its number among the certificates, and not among all items."""
         return with_certificate_numbers(line, self.heads)
 
-    def fault(self, line):
+    def faults_by_box(self, line):
         """What is shown at the box of the case for the refusal `line`, with its places there, in a dictionary by the name of the box."""
         in_box = [(at, with_certificate_numbers(why, self.heads)) for at, why in places(self.octets, line)]
-        return {"case": {"line": line, "shown": self.shown(line), "places": places_for_page(self.octets, in_box)}}
+        return {"case": {"line": line, "shown": self.line_for_page(line), "places": places_for_page(self.octets, in_box)}}

@@ -9,12 +9,14 @@ from spki_cert_tool.sexp import canonical, on_one_line
 LINE = re.compile(r"\s*(.*?)\s*=?\s*(\(.*)", re.DOTALL)
 # The most lines of labels that are read, and the most letters of a label. What is more is left out.
 MOST_LABELS, MOST_LETTERS = 64, 40
+# What is shown of a key as it is: its only part, if that is at most 40 visible characters and spaces.
 PLAIN = re.compile(rb"[ -~]{1,40}\Z")
 
 
 class Labels:
-    """Labels of keys, hashes and names: `of_values` has them by canonical texts, `hashes` the keys by algorithm and digest, and `faults` the lines
-    that cannot be read, each as its number from 1 and why. `lines` is a text with a label and a key on each line, and `engine` reads the keys."""
+    """Labels of keys, hashes and names: `of_values` has them by canonical texts, `hashes` the keys, as values, by algorithm and digest, and `faults`
+    the lines that cannot be read, each as its number from 1 and why. `lines` is a text with a label and a key on each line, and `engine` reads the
+    keys."""
 
     def __init__(self, engine, lines):
         self.of_values, self.hashes, self.faults = {}, {}, []
@@ -48,35 +50,36 @@ class Labels:
                 self.learn_comment(part)
 
     def learn_comment(self, part):
-        """Takes the comment of `part`, an entry or a certificate, as a label of its subject. In a tag or a key a list may have such a head and be
-        neither, so its form is tested too."""
+        """Adds the comment of `part`, an entry or a certificate, as a label of its subject, unless the subject has a label. In a tag or a key a list
+        may begin with `entry` or `cert` and be none, so its form is tested too."""
         comment = field(part, b"comment")
         subject = part[1:2] if part[0] == b"entry" else (field(part, b"subject") or [])[1:2]
         if comment and len(comment) == 2 and isinstance(comment[1], bytes) and subject and isinstance(subject[0], list):
             self.of_values.setdefault(canonical(subject[0]), comment[1].decode(errors="replace")[:MOST_LETTERS])
 
-    def key(self, principal):
-        """The key that a principal, a key or a hash, names, if it is known, else the principal."""
+    def key_named_by(self, principal):
+        """The key, a value, that a principal, a key or a hash, names. For a hash whose key was not learned it is the principal itself."""
         return self.hashes.get((principal[1], principal[2]), principal) if principal[0] == b"hash" else principal
 
     def name_of(self, subject):
-        """What a principal or a name is called: its own label, else for a hash that of its key, else a short form."""
+        """What `subject`, a principal or a name, is called: by its label, else for a hash by that of its key, else by a short form. A name without a
+        label is called by its strings and by what its principal is called."""
         label = self.of_values.get(canonical(subject))
         if label:
             return label
         if subject[0] == b"name":
             names = [name.decode(errors="replace") for name in subject[2:]]
             return f"{' '.join(names)} of {self.name_of(subject[1])}"
-        key = self.key(subject)
-        return self.name_of(key) if key is not subject else short(subject)
+        key = self.key_named_by(subject)
+        return self.name_of(key) if key is not subject else short_form(subject)
 
 
 def field(value, head):
-    """The field of a certificate, an entry or a right with a head, or None."""
+    """The field of a certificate, an entry or a right that begins with the word `head`, as `(tag ..)` for b"tag". None if there is none."""
     return next((part for part in value[1:] if isinstance(part, list) and part[:1] == [head]), None)
 
 
-def short(principal):
+def short_form(principal):
     """A short form of a key or a hash: the only part of a key if that is plain text, else its algorithm and the beginning of a digest in
     hexadecimal."""
     if principal[0] == b"hash":

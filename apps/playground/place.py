@@ -1,4 +1,5 @@
-"""Where a text is refused and why, by the code of apps/spki-cert/ that apps/locate uses too."""
+"""Where a text is refused and why, by the code of apps/spki-cert/ that apps/locate uses too. A place is an offset in octets, with a remark that says
+what is wrong there. An item is a member of a sequence: a key, a certificate or a signature."""
 import re
 from typing import NamedTuple
 
@@ -30,7 +31,8 @@ def items_of(text):
 
 
 def places(text, line):
-    """The places of the refusal `line` in a text as offsets, with remarks: the place itself first. Empty if the text is not refused by this line."""
+    """The places of the refusal `line` in a text, as pairs of an offset and a remark: first where the fault is, then further places that explain it.
+    Empty if the text is not refused by this line."""
     # (for a text in braces, `offsets` has the offset of each octet that they encode; otherwise it is None)
     (wrong, _, offsets), _ = read_text(text, line)
     if wrong is None or refusal(wrong, offsets) != line:
@@ -44,8 +46,8 @@ def places_for_page(text, offsets):
 
 
 def heads_in(text, made_up=()):
-    """The words that the items of a sequence, or of a case's sequence, begin with. None for an item that the page made up: `made_up` are the offsets
-    of these. Empty if the text cannot be read."""
+    """The words that the items of a sequence, or of a case's sequence, begin with, as octets. None for an item that the page made up: `made_up` are
+    the offsets of these in `text`. Empty if the text cannot be read."""
     try:
         node = value_in(text)
     except (Wrong, RecursionError):

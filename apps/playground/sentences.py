@@ -41,16 +41,16 @@ def is_one_string_of_words(request):
 
 def sentence_of(story, reason):
     """A line of `explain`, a `Reason`, as the page shows it: a dictionary with the line in words (`says`), what to do (`hint`), the line itself and
-    its parts. `story` is the question that was answered, a `Story`."""
+    its parts. `story` is the question that was answered, a `Story`. If the right that remains is not known, its window is only `in another time`."""
     says, hint = WORDS[reason.word]
     if reason.word == "TagLacks" and is_one_string_of_words(story.request):
         hint = ONE_STRING
-    fields = {"entry": reason.entry, "number": story.number(reason.item) if reason.item else 0,
+    fields = {"entry": reason.entry, "number": story.certificate_number(reason.item) if reason.item else 0,
               "client": story.labels.name_of(story.key), "moment": moment_of(story.at),
               "holder": story.labels.name_of(story.holder(reason)) if reason.entry else "",
               "issuer": story.labels.name_of(issuer_of(story.certificate(reason.item))) if reason.item else "",
               "shown": phrase_on_certificates(story), "window": "in another time"}
-    right = story.left(reason)
+    right = story.remaining_right(reason)
     if right:
         fields["window"] = window(right) or "at all times"
     return {"entry": reason.entry, "item": reason.item, "certificate": fields["number"] or None, "word": reason.word, "line": reason.line,
@@ -64,14 +64,15 @@ def phrase_on_certificates(story):
 
 
 def title(reasons, line):
-    """The answer itself, in one sentence: that of the first of `reasons`, which `sentence_of` has made, or one by the line of the decision."""
+    """The answer in one sentence: that of the first of `reasons`, dictionaries of `sentence_of`. Without reasons it is one by `line`, that of the
+    decision."""
     if line.startswith("yes"):
         return reasons[0]["says"] if reasons else f"Entry {line.rsplit(' ', 1)[1]} grants the request."
     return reasons[0]["says"] if reasons else "The access list is empty."
 
 
-def right_left(story, number, item, right):
-    """The right `(five ..)` that remains of the entry with a number, as the page lists it: a dictionary. If `item` is the number of an item, it is
-    the right before this item, which stops the chain. For None it is the right at the chain's end."""
-    return {"entry": number, "before": story.number(item) if item else 0, "holder": story.labels.name_of(field(right, b"subject")[1]),
+def right_for_page(story, number, item, right):
+    """A dictionary about `right`, a value `(five ..)` that remains of the entry with a number, as the page lists it. If `item` is the number of an
+    item, it is the right before this item, which stops the chain. For None it is the right at the chain's end."""
+    return {"entry": number, "before": story.certificate_number(item) if item else 0, "holder": story.labels.name_of(field(right, b"subject")[1]),
             "tag": tag_of(right), "window": window(right) or "at all times", "passes": field(right, b"propagate") is not None}

@@ -70,8 +70,8 @@ class Handler(http.server.BaseHTTPRequestHandler):
             raise
 
     def give_file(self):
-        """Answers with the file of the page that is asked for."""
-        name = self.name_asked("index.html")
+        """Answers with the file of the page that is asked for, or with status 404."""
+        name = self.name_asked(default="index.html")
         if name is None:
             return
         if name not in self.server.files:
@@ -81,18 +81,18 @@ class Handler(http.server.BaseHTTPRequestHandler):
         self.reply(http.HTTPStatus.OK, kind, octets)
 
     def do_job(self):
-        """Does the job that is asked for, and answers with its result in JSON."""
-        name = self.name_asked("")
+        """Does the job that is asked for, and answers with its result in JSON. Refuses a request from another page, with status 403, one for a job
+        that does not exist, with 404, and one whose body `read_object` refuses."""
+        name = self.name_asked(default="")
         if name is None:
             return
-        # (so that no other page of the browser can ask)
         if self.headers.get("Origin") not in self.server.origins or self.headers.get("Sec-Fetch-Site", "same-origin") != "same-origin":
             self.refuse(http.HTTPStatus.FORBIDDEN)
             return
         if name not in self.server.jobs:
             self.refuse(http.HTTPStatus.NOT_FOUND)
             return
-        sent = self.body()
+        sent = self.read_object()
         if sent is not None:
             # (a name that each opened page makes up, so that its new question can replace its old one)
             page = sent.get("page")
@@ -111,7 +111,7 @@ class Handler(http.server.BaseHTTPRequestHandler):
             return None
         return name or default
 
-    def body(self):
+    def read_object(self):
         """Reads the object that was sent. If its length is missing or too large, or it is no object in JSON, refuses the request and returns None."""
         length = self.headers.get("Content-Length", "")
         if not length.isascii() or not length.isdigit() or "Transfer-Encoding" in self.headers:

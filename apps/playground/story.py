@@ -32,8 +32,8 @@ class Reason:
 
     @property
     def rank(self):
-        """A key for `sorted`: what grants is first, then the chain that goes furthest. Of those that join to their end, one that ends at another key
-        is the last. Of equal ones the first entry is first."""
+        """A key for `sorted`: what grants is first, then the chain that goes furthest, where one that no item stops goes further than all others. Of
+        chains without such an item, one that ends at another key is the last. Of equal ones the first entry is first."""
         return self.word != "grants", -(self.item or sys.maxsize), self.word == "NotTheKey", self.entry or 0
 
 
@@ -63,8 +63,8 @@ class Story:
         """The certificate that is the item of the sequence with this number, from 1."""
         return self.items[item - 1]
 
-    def number(self, item):
-        """The number of a certificate among the certificates, by its number among all items."""
+    def certificate_number(self, item):
+        """The number of a certificate among the certificates, by its number among all items. Both count from 1."""
         return sum(value[0] == b"cert" for value in self.items[:item])
 
     def holder(self, reason):
@@ -77,8 +77,8 @@ class Story:
                 subject = subject_after(subject, item)
         return subject
 
-    def left(self, reason):
-        """The right where the chain of a reason ends or stops, or None if it is not known."""
+    def remaining_right(self, reason):
+        """The right that remains where the chain of a reason ends or stops, a value `(five ..)`, or None if it is not known."""
         return self.rights_left.get((reason.entry, reason.item))
 
 
@@ -88,7 +88,8 @@ def issuer_of(certificate):
 
 
 def subject_of(certificate):
-    """The subject of a certificate. A relative name is one of the issuer's principal."""
+    """The subject of a certificate: a principal or a name. A relative name, `(name NAME ..)`, gets the principal of the issuer: `(name PRINCIPAL
+    NAME ..)`."""
     subject, issuer = field(certificate, b"subject")[1], issuer_of(certificate)
     if subject[0] == b"name" and isinstance(subject[1], bytes):
         return [b"name", issuer[1] if issuer[0] == b"name" else issuer, *subject[1:]]
@@ -107,7 +108,7 @@ def subject_after(before, certificate):
 
 
 def window(value):
-    """The validity of an entry, a certificate or a right, in words, or None if it has no limit."""
+    """The validity of an entry, a certificate or a right, in words, as `from 2026-01-01 00:00:00`, or None if it has no limit."""
     limits = field(value, b"valid") or value
     parts = [(word, field(limits, head)) for word, head in (("from", b"not-before"), ("until", b"not-after"))]
     return " ".join(f"{word} {moment_of(limit[1])}" for word, limit in parts if limit) or None

@@ -22,9 +22,9 @@ TOO_LARGE = "The text is too large for this page."
 
 
 def serve(pipe, wanted, seconds):
-    """Runs in a process until the pipe is closed: takes a job from it, its name in JOBS and what the page sent, and sends back the parts of its
-    answer, which are dictionaries, then None. `wanted` is `library`, `program` or None, for `choose_engine`. If the text is too large or the
-    program fails, the last part is a notice. A job that takes over `seconds` + GRACE ends the process."""
+    """Runs in a process until `pipe`, a connection of multiprocessing, is closed: takes a job from it, its name in JOBS and the object that the page
+    sent, and sends back the parts of its answer, which are dictionaries, then None. `wanted` is `library`, `program` or None, for `choose_engine`. If
+    the text is too large or the program fails, the last part is a notice. A job that takes over `seconds` + GRACE ends the process."""
     # (so the programs that it runs can be ended with it, as a group, and ctrl-c in the terminal of the server does not reach them)
     os.setsid()
     signal.signal(signal.SIGINT, signal.SIG_IGN)
@@ -63,8 +63,8 @@ class Worker:
         far_end.close()
 
     def answer(self, name, sent):
-        """Sends a job, its name in JOBS and the object that the page sent, and waits for its answer, or for what there is of it in time. Returns it,
-        a dictionary, and whether the process can be asked again. What was left out, and why, is the field `notice` of the answer."""
+        """Sends a job, its name in JOBS and the object that the page sent, and waits for its answer, or for those parts that come within `seconds`.
+        Returns them as one dictionary, and whether the process can be asked again. The field `notice` says what was left out, and why."""
         whole, ends = {}, time.monotonic() + self.seconds
         try:
             self.pipe.send((name, sent))
@@ -107,9 +107,9 @@ class Workers:
         self.busy, self.idle = {}, [Worker(wanted, seconds) for _ in range(spare)]
 
     def answer(self, page, name, sent):
-        """The answer to a job of a page, a dictionary. `page` is the page's own name, `name` that of the job, and `sent` the object that the page
-        sent. Ends the job of the same name that the page has under way. Waits for a free process: if none is within `seconds`, the answer is a
-        notice."""
+        """The answer to a job of a page, a dictionary. `page` is a name that the opened page has made up for itself, `name` that of the job, and
+        `sent` the object that the page sent. Ends the job of the same name that the page has under way. Waits for a free process: if none is free
+        within `seconds`, the answer is a notice."""
         with self.lock:
             replaced = self.busy.pop((page, name), None)
             if replaced is not None:

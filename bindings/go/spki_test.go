@@ -1,3 +1,5 @@
+// Tests of keys that clients have proved to hold (ProveKey), and of the schemes of signatures. Keys are texts in canonical form.
+
 package spki_test
 
 import (
@@ -7,21 +9,20 @@ import (
 	"conguraki/spki"
 )
 
-// login returns a message with a signature by the key of b, of which the test says whether it is valid.
-func login(message string) spki.Signature {
-	return spki.Signature{Key: []byte("(10:public-key(4:test1:b))"), Message: []byte(message), Value: []byte("3:sig")}
-}
+// keyOfB is the key that signs in TestProveKey, in canonical form.
+const keyOfB = "(10:public-key(4:test1:b))"
 
-// TestProveKey takes a login whose signature is valid, one whose signature is not, and a certificate. Only the first proves its key: whoever shows a
-// certificate need not hold the key that has signed it.
+// TestProveKey gives a login whose signature is valid, one whose signature is not, and a certificate whose signature is valid. Only the first proves
+// the key, and the others are ErrNotProved: whoever shows a certificate need not hold the key that has signed it. The verifier says `isValid`.
 func TestProveKey(t *testing.T) {
 	for _, row := range []struct {
 		message  string
 		isValid  bool
 		isProved bool
 	}{{"(5:login7:service5:nonce)", true, true}, {"(5:login7:service5:nonce)", false, false}, {"(4:cert)", true, false}} {
-		key, err := spki.ProveKey(login(row.message), func(spki.Signature) bool { return row.isValid })
-		isKey := key == spki.AssumeKey(login("").Key)
+		signed := spki.Signature{Key: []byte(keyOfB), Message: []byte(row.message), Value: []byte("3:sig")}
+		key, err := spki.ProveKey(signed, func(spki.Signature) bool { return row.isValid })
+		isKey := key == spki.AssumeKey([]byte(keyOfB))
 		isRefused := errors.Is(err, spki.ErrNotProved)
 		if isKey != row.isProved || isRefused == row.isProved || (err == nil) != row.isProved {
 			t.Errorf("%+v: %v, %v", row, key, err)
@@ -44,7 +45,7 @@ func TestKeyAsLine(t *testing.T) {
 	}
 }
 
-// TestScheme gives keys in canonical form, and what is no key. The scheme is that of how the text begins.
+// TestScheme takes the scheme of signatures by keys in canonical form, and by an empty text, which is no key. Only the beginning of a text counts.
 func TestScheme(t *testing.T) {
 	for key, wanted := range map[string]spki.Scheme{
 		"(10:public-key(3:ecc(5:curve7:Ed25519)(5:flags5:eddsa)(1:q1:x)))": spki.Ed25519, "(10:public-key(3:rsa(1:n1:x)(1:e1:x)))": spki.RSA,

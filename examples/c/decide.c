@@ -18,8 +18,8 @@
 
 enum { MOST_OCTETS = 65536, MOST_WORDS = 16, FIRST_WORD = 4 };
 
-/* Whether a request is granted at `now`, in seconds since 1970. Each word is one string of it, whatever octets it has. A client who shows more than
- * the limits of the guard allow is denied. */
+/* Whether a request is granted at `now`, in seconds since 1970. Each word is one string of it, whatever octets it has. False too if a text cannot be
+ * read, or a client shows more than the limits of the guard allow. */
 static bool is_granted(const spki_guard *guard, struct spki_text sequence, struct spki_proven_key key, const struct spki_text *words,
                        size_t word_count, int64_t now)
 {

@@ -7,12 +7,12 @@
 #include <stdlib.h>
 #include <sys/random.h>
 
-/* Each set has 2 * `most` places for hashes, of which at most `most` are used. A free one is 0. `count` is how many hashes the young set has, and
- * `turned` when it began, in seconds since 1970: 0 before the first nonce. `secret` is the key of SipHash. */
+/* Each set is an array of 2 * `most` places for hashes, of which at most `most` are used. A free one is 0. `count` is how many hashes the young set
+ * has, and `young_since` when it began, in seconds since 1970: 0 before the first nonce. `secret` is the key of SipHash. */
 struct http_nonces {
     uint64_t secret[2], *young, *old;
     size_t most, count;
-    long long turned;
+    long long young_since;
 };
 
 /* A word rotated to the left by `bits`, from 1 to 63. */
@@ -21,7 +21,7 @@ static uint64_t rotated(uint64_t word, unsigned bits)
     return word << bits | word >> (64 - bits);
 }
 
-/* Changes the state of SipHash by `count` rounds. */
+/* Changes the state of SipHash by `count` rounds, with the rotations that its authors chose. */
 static void sip_rounds(uint64_t v[4], int count)
 {
     for (; count > 0; count--) {
@@ -61,7 +61,7 @@ static uint64_t hash_of(const uint64_t secret[2], struct spki_text key, struct s
     struct sip sip = {{secret[0] ^ 0x736f6d6570736575, secret[1] ^ 0x646f72616e646f6d, secret[0] ^ 0x6c7967656e657261,
                        secret[1] ^ 0x7465646279746573}, 0, 0};
     sip_add(&sip, key.octets, key.length);
-    sip_add(&sip, "", 1);
+    sip_add(&sip, "", 1); /* (the octet 00 that ends this string) */
     sip_add(&sip, nonce.octets, nonce.length);
     uint64_t last = sip.word | (uint64_t)sip.length << 56;
     sip.v[3] ^= last;
@@ -97,11 +97,11 @@ struct http_nonces *http_nonces_open(size_t most)
     return NULL;
 }
 
-/* Makes the young set the old one once it is `seconds` old, and begins an empty one. One that is twice as old is forgotten as well. If the clock went
- * back, nothing is forgotten. */
-static void turn(struct http_nonces *nonces, long long now, long long seconds)
+/* Once the young set is `seconds` old at `now`, drops the old set, puts the young one in its place, and begins an empty one. From twice `seconds` on,
+ * both are dropped. If the clock went back, nothing is. */
+static void drop_old_set(struct http_nonces *nonces, long long now, long long seconds)
 {
-    long long age = now - nonces->turned;
+    long long age = now - nonces->young_since;
     if (age < seconds)
         return;
     uint64_t *last_young = nonces->young;
@@ -110,7 +110,7 @@ static void turn(struct http_nonces *nonces, long long now, long long seconds)
     memset(nonces->young, 0, 2 * nonces->most * sizeof *nonces->young);
     if (age >= 2 * seconds)
         memset(nonces->old, 0, 2 * nonces->most * sizeof *nonces->old);
-    nonces->turned = now;
+    nonces->young_since = now;
     nonces->count = 0;
 }
 
@@ -120,7 +120,7 @@ const char *http_nonces_take(void *store, struct spki_text key, struct spki_text
 {
     struct http_nonces *nonces = store;
     const uint64_t hash = hash_of(nonces->secret, key, nonce);
-    turn(nonces, now, seconds);
+    drop_old_set(nonces, now, seconds);
     uint64_t *place = place_of(nonces->young, nonces->most, hash);
     if (*place || *place_of(nonces->old, nonces->most, hash))
         return "nonce-seen";

@@ -42,7 +42,7 @@ static struct spki_text literal(const char *text)
     return (struct spki_text){text, strlen(text)};
 }
 
-/* Whether a text equals a C string. */
+/* Whether a text equals a C string, which has no octet 00 inside. */
 static bool is_text(struct spki_text text, const char *wanted)
 {
     return text.length == strlen(wanted) && (text.length == 0 || memcmp(text.octets, wanted, text.length) == 0);
@@ -100,8 +100,8 @@ static int six_bits(unsigned char octet)
     return place ? (int)(place - digits) : -1;
 }
 
-/* Decodes base64 with its padding into `octets`, and sets `length` to their number. False if the text is none, is not the one text of its octets, or
- * has more octets than `room`. In the code, the lowest `count` of `bits` are those that are not in an octet yet, and the others are 0. */
+/* Decodes base64 with its padding into `octets`, and sets `length` to their number. False if the text is no base64, is not the one text of its
+ * octets, or has more octets than `room`. In the code, the lowest `count` of `bits` are those that are not in an octet yet, and the others are 0. */
 static bool decode_base64(struct spki_text text, unsigned char *octets, size_t room, size_t *length)
 {
     const unsigned char *in = text.octets;
@@ -165,7 +165,8 @@ static bool read_string(struct cursor *in, struct spki_text *string)
     return try_skip(in, "\"");
 }
 
-/* Reads a number of at most MOST_DIGITS digits, without zeros before it, and returns whether one is next. */
+/* Reads a number of at most MOST_DIGITS digits, without zeros before it, and returns whether one is next. (One digit more is read, which shows that
+ * the number is too long, and fits a long long.) */
 static bool read_integer(struct cursor *in, long long *number)
 {
     const unsigned char *first = in->at;
@@ -277,7 +278,7 @@ static const char *read_input(struct spki_text value, struct input *input)
     return why ? why : read_parameters(&in, input);
 }
 
-/* Reads octets between colons, in base64, and returns whether they are next. */
+/* Reads octets between colons, in base64, into `octets`, and sets `length` to their number. Returns whether they are next and fit in `room`. */
 static bool read_octets(struct cursor *in, unsigned char *octets, size_t room, size_t *length)
 {
     if (!try_skip(in, ":"))
@@ -301,7 +302,7 @@ static const char *read_signature(struct spki_text value, unsigned char octets[M
 
 /* ---- the request */
 
-/* The number of lines that a field has. Sets `value`, unless it is null, to the value in the first of them. */
+/* The number of lines that a field has. Sets `value`, unless it is null or there is no such line, to the value in the first of them. */
 static size_t count_lines(const struct http_request *request, struct spki_text name, struct spki_text *value)
 {
     size_t count = 0;
@@ -344,7 +345,7 @@ static bool is_target(struct spki_text target)
     return target.length > 0 && octets[0] == '/';
 }
 
-/* The name of the service that a request is for, as the service has it, or null if it has no such name. The port 443 is left out. */
+/* The name of the service that a request is for, as `service` has it, or null if it has no such name. The port 443 of the request is left out. */
 static const struct spki_text *authority_of(const struct http_service *service, const struct http_request *request)
 {
     struct spki_text name = request->authority, port = SPKI_LITERAL(":443");
@@ -357,7 +358,7 @@ static const struct spki_text *authority_of(const struct http_service *service, 
     return NULL;
 }
 
-/* Whether the body may have octets, so that its digest must be covered. */
+/* Whether the body may have octets, so that its digest must be covered: `has_body` or a field says so, or the method is neither GET nor HEAD. */
 static bool may_have_body(const struct http_request *request)
 {
     for (size_t i = 0; i < request->field_count; i++)
@@ -369,14 +370,14 @@ static bool may_have_body(const struct http_request *request)
 
 /* ---- the signed text */
 
-/* Counts the octets of a text, and writes them to `octets` unless that is null. */
+/* What is written: `length` octets at `octets`. If `octets` is null, they are only counted, to know how much room they need. */
 struct writer {
     unsigned char *octets;
     size_t length;
 };
 
-/* Writes a text behind what is written. */
-static void put(struct writer *out, struct spki_text text)
+/* Writes a text behind what `out` has. There must be room for it. */
+static void write_text(struct writer *out, struct spki_text text)
 {
     if (out->octets && text.length)
         memcpy(out->octets + out->length, text.octets, text.length);
@@ -384,43 +385,43 @@ static void put(struct writer *out, struct spki_text text)
 }
 
 /* Writes the value of a component by its name. Returns null, or the name of the refusal of a field that cannot be read. */
-static const char *put_value(struct writer *out, const struct http_request *request, struct spki_text authority, struct spki_text name)
+static const char *write_value(struct writer *out, const struct http_request *request, struct spki_text authority, struct spki_text name)
 {
     struct spki_text target = request->target, value;
     const unsigned char *first = target.octets, *query = memchr(first, '?', target.length), *end = first + target.length;
     const char *why = NULL;
     if (is_text(name, "@method")) {
-        put(out, request->method);
+        write_text(out, request->method);
     } else if (is_text(name, "@authority")) {
-        put(out, authority);
+        write_text(out, authority);
     } else if (is_text(name, "@path")) {
-        put(out, between(first, query ? query : end));
+        write_text(out, between(first, query ? query : end));
     } else if (is_text(name, "@query")) {
-        put(out, query ? between(query, end) : literal("?"));
+        write_text(out, query ? between(query, end) : literal("?"));
     } else if (is_text(name, "@target-uri")) {
-        put(out, literal("https://"));
-        put(out, authority);
-        put(out, target);
+        write_text(out, literal("https://"));
+        write_text(out, authority);
+        write_text(out, target);
     } else if (!(why = read_field(request, name, &value))) {
-        put(out, value);
+        write_text(out, value);
     }
     return why;
 }
 
 /* Writes the signature base of RFC 9421: the text that is signed. Returns null, or the name of the refusal. */
-static const char *put_base(struct writer *out, const struct http_request *request, struct spki_text authority, const struct input *input)
+static const char *write_base(struct writer *out, const struct http_request *request, struct spki_text authority, const struct input *input)
 {
     for (size_t i = 0; i < input->count; i++) {
-        put(out, literal("\""));
-        put(out, input->components[i]);
-        put(out, literal("\": "));
-        const char *why = put_value(out, request, authority, input->components[i]);
+        write_text(out, literal("\""));
+        write_text(out, input->components[i]);
+        write_text(out, literal("\": "));
+        const char *why = write_value(out, request, authority, input->components[i]);
         if (why)
             return why;
-        put(out, literal("\n"));
+        write_text(out, literal("\n"));
     }
-    put(out, literal("\"@signature-params\": "));
-    put(out, input->text);
+    write_text(out, literal("\"@signature-params\": "));
+    write_text(out, input->text);
     return NULL;
 }
 
@@ -451,7 +452,7 @@ static const char *read_key(struct spki_text text, struct http_proof *proof, siz
 }
 
 /* Writes a string in canonical form, LENGTH:OCTETS. */
-static void put_string(struct writer *out, struct spki_text string)
+static void write_string(struct writer *out, struct spki_text string)
 {
     /* (a half of a signature, or one by RSA, has at most 512 octets, so there is room for the digits and the colon) */
     char digits[8];
@@ -459,24 +460,24 @@ static void put_string(struct writer *out, struct spki_text string)
     digits[--at] = ':';
     for (size_t length = string.length; at == sizeof digits - 1 || length > 0; length /= 10)
         digits[--at] = (char)('0' + length % 10);
-    put(out, (struct spki_text){digits + at, sizeof digits - at});
-    put(out, string);
+    write_text(out, (struct spki_text){digits + at, sizeof digits - at});
+    write_text(out, string);
 }
 
 /* Writes the canonical value, `(7:sig-val..)`, of the octets that `Signature` has. With RSA they are one string of it, else two halves. */
-static void put_signature(struct writer *out, struct spki_text algorithm, struct spki_text octets)
+static void write_signature(struct writer *out, struct spki_text algorithm, struct spki_text octets)
 {
     const unsigned char *first = octets.octets, *half = first + octets.length / 2;
     if (is_text(algorithm, "rsa-v1_5-sha256")) {
-        put(out, literal("(7:sig-val(3:rsa(1:s"));
-        put_string(out, octets);
+        write_text(out, literal("(7:sig-val(3:rsa(1:s"));
+        write_string(out, octets);
     } else {
-        put(out, literal(is_text(algorithm, "ed25519") ? "(7:sig-val(5:eddsa(1:r" : "(7:sig-val(5:ecdsa(1:r"));
-        put_string(out, between(first, half));
-        put(out, literal(")(1:s"));
-        put_string(out, between(half, first + octets.length));
+        write_text(out, literal(is_text(algorithm, "ed25519") ? "(7:sig-val(5:eddsa(1:r" : "(7:sig-val(5:ecdsa(1:r"));
+        write_string(out, between(first, half));
+        write_text(out, literal(")(1:s"));
+        write_string(out, between(half, first + octets.length));
     }
-    put(out, literal(")))"));
+    write_text(out, literal(")))"));
 }
 
 /* ---- the tests */
@@ -497,7 +498,7 @@ static const char *check_parameters(const struct http_service *service, const st
     return input->created < service->start ? "before-start" : NULL;
 }
 
-/* Reads the value of `Content-Digest` into the proof. Returns null, or the name of the refusal. */
+/* Reads the value of `Content-Digest`, one digest by SHA-256 (32 octets) or SHA-512 (64), into the proof. Returns null, or the refusal's name. */
 static const char *read_digest(struct spki_text value, struct http_proof *proof)
 {
     const unsigned char *first = value.octets;
@@ -557,10 +558,10 @@ static const char *check_key(const struct http_request *request, const struct in
 /* Verifies the octets of a signature, at most MOST_SIGNATURE, whose message is the signature base. Returns null, or the name of the refusal. */
 static const char *check_signature(struct spki_text key, struct spki_text algorithm, struct spki_text octets, struct writer *base)
 {
-    /* (what put_signature writes around the octets has less than 64) */
+    /* (what write_signature writes around the octets has fewer than 64 octets) */
     unsigned char text[MOST_SIGNATURE + 64];
     struct writer value = {text, 0};
-    put_signature(&value, algorithm, octets);
+    write_signature(&value, algorithm, octets);
     const struct spki_signed signature = {.key = key, .message = {base->octets, base->length}, .value = {text, value.length}};
     return verifies(&signature) ? NULL : "invalid-signature";
 }
@@ -575,7 +576,7 @@ static const char *check_message(const struct http_service *service, const struc
     if (!is_token(request->method) || !is_target(request->target))
         return is_token(request->method) ? "bad-target" : "bad-method";
     const struct spki_text *authority = authority_of(service, request);
-    const char *why = authority ? put_base(&counter, request, *authority, input) : "other-authority";
+    const char *why = authority ? write_base(&counter, request, *authority, input) : "other-authority";
     if (!why)
         why = check_fields(request, input, proof);
     if (!why)
@@ -587,7 +588,7 @@ static const char *check_message(const struct http_service *service, const struc
     struct writer base = {malloc(counter.length), 0};
     if (!base.octets)
         return "memory";
-    put_base(&base, request, *authority, input);
+    write_base(&base, request, *authority, input);
     why = check_signature((struct spki_text){proof->key, proof->key_length}, input->strings[ALG], octets, &base);
     free(base.octets);
     return why;
@@ -609,7 +610,8 @@ static const char *read_fields(const struct http_request *request, struct input 
     return why ? why : read_signature(signature, octets, length);
 }
 
-/* The text up to a mark, or all if there is none. Writes 00 in place of the mark, and sets `rest` to what is behind it. */
+/* The text of `*rest`, a C string, up to a mark, or all of it if there is none. Writes 00 in place of the mark, and sets `*rest` to what is behind
+ * it. */
 static struct spki_text cut(char **rest, const char *mark)
 {
     char *first = *rest, *end = strstr(first, mark);
@@ -639,7 +641,8 @@ bool http_request_read(char *head, struct http_field *fields, size_t most, struc
 }
 
 /* Null if a request proves a key at a time, in seconds since 1970. Otherwise the name of the refusal, or "memory". With null the proof is set, and
- * the nonce of the request is used up. The nonce is taken last, so that only the holder of the key can use it up. */
+ * the nonce of the request is used up. The nonce is taken last, so that only the holder of the key can use it up. It is kept as long as a signature
+ * that is accepted now can be accepted. */
 const char *http_request_refusal(const struct http_service *service, const struct http_request *request, long long now, struct http_proof *proof)
 {
     struct input input;

@@ -43,7 +43,7 @@ static void read_head(int client, char head[MOST_HEAD])
 /* Listens on a free port of loopback, prints it, and answers clients one by one. The exit status is 2 without a port or list, 1 if it ends later. */
 int main(int argc, char **argv)
 {
-    static char list[MOST_LIST + 1], head[MOST_HEAD];
+    static char list[MOST_LIST + 1], head[MOST_HEAD]; /* (the guard refuses a list that fills it: one octet more than any may have) */
     struct sockaddr_in address = {.sin_family = AF_INET, .sin_addr = {htonl(INADDR_LOOPBACK)}};
     socklen_t size = sizeof address;
     const int listener = socket(AF_INET, SOCK_STREAM, 0);

@@ -24,8 +24,8 @@ enum { VERIFY_HASH = 32 };
 /* The SHA-256 hash of octets, such as the canonical text of a key. False if the library fails, and then there is no hash. */
 SPKI_RESULT bool verify_hash(struct spki_text octets, unsigned char hash[VERIFY_HASH]);
 
-/* The decision of a guard on a question. Only the status SPKI_YES grants. A question that is refused is a no. No signature is verified where none can
- * help. */
+/* The decision of a guard on a question. Only the status SPKI_YES grants. A question that is refused is a no. No signature is verified if the request
+ * would be denied even if all were valid. */
 SPKI_RESULT static inline struct spki_decision verify_decides(const spki_guard *guard, const struct spki_question *question)
 {
     struct spki_decision decision = {SPKI_NO, INT64_MIN};
@@ -110,7 +110,8 @@ static inline bool verify_is_below_half(struct spki_text number, const char *lim
     return verify_is_below(number, (struct spki_text){limit, VERIFY_HALF});
 }
 
-/* The count of bits of a number of a key. 0 unless the number is odd, and has an octet 00 in front exactly if its first bit is set. */
+/* The count of bits of a number of a key by RSA. 0 unless the number is odd, and has one octet 00 in front if its first bit is set, and otherwise
+ * none. */
 static inline size_t verify_bits(struct spki_text number)
 {
     struct spki_text trimmed = verify_trimmed(number);
@@ -132,7 +133,8 @@ static inline void verify_reverse(struct spki_text half, unsigned char reversed[
 }
 
 /* Whether q can be a key of Ed25519, and r and s a signature. For a point of small order anyone can make signatures, and some points have a second
- * text: neither may be a key. So y is at least 2^192, below p - 1, and none of the two y of order 8. The number s is below the order of the group. */
+ * text: neither may be a key. So y is at least 2^192, below p - 1 (`last_y`), and none of the two y of order 8 (`eighth`). The number s is below the
+ * order of the group. */
 static inline bool verify_is_ed25519(struct spki_text q, struct spki_text r, struct spki_text s)
 {
     static const char last_y[] = "\x7f\xff\xff\xff\xff\xff\xff\xff\xff\xff\xff\xff\xff\xff\xff\xff\xff\xff\xff\xff\xff\xff\xff\xff\xff\xff\xff\xff"
@@ -154,8 +156,8 @@ static inline bool verify_is_ed25519(struct spki_text q, struct spki_text r, str
            && verify_is_below_half((struct spki_text){s_number, VERIFY_HALF}, order);
 }
 
-/* Whether q can be a key of ECDSA, and r and s a signature, by a curve's prime p and order. An octet 04 and two coordinates are q. These are
- * below p, and r and s, which have no octets 00 in front, are from 1 to below the order. A library tests that q is on the curve. */
+/* Whether q can be a key of ECDSA, and r and s a signature, by a curve's prime p and order. An octet 04 and two coordinates are q. The coordinates
+ * are below p, and r and s, which have no octets 00 in front, are from 1 to below the order. A library tests that q is on the curve. */
 static inline bool verify_is_ecdsa(struct spki_text q, struct spki_text r, struct spki_text s, struct spki_text p, struct spki_text order)
 {
     const unsigned char *octets = q.octets;
@@ -183,8 +185,8 @@ static inline bool verify_is_p384(struct spki_text q, struct spki_text r, struct
     return verify_is_ecdsa(q, r, s, (struct spki_text){p, sizeof p - 1}, (struct spki_text){order, sizeof order - 1});
 }
 
-/* Whether n and e can be a key of RSA, and s a signature. Both of the key are odd and within the limits, and s, which has no octets 00 in front, is
- * from 1 to below n. */
+/* Whether n and e can be a key of RSA, and s a signature. n and e are odd and within the limits, where e is at least 3, which has 2 bits; and s,
+ * which has no octets 00 in front, is from 1 to below n. */
 static inline bool verify_is_rsa(struct spki_text n, struct spki_text e, struct spki_text s)
 {
     size_t bits = verify_bits(n), exponent = verify_bits(e);

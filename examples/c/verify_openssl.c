@@ -10,7 +10,7 @@
 #include <openssl/param_build.h>
 #include <string.h>
 
-/* The octets of the largest signature, that of RSA: one by ECDSA in DER has at most 104. */
+/* The octets of the largest signature, that of RSA. One by ECDSA in DER has at most 104: two numbers of 51 octets at most, in a list. */
 enum { MOST_SIGNATURE = VERIFY_MOST_BITS / 8 };
 
 /* OpenSSL's public key of a kind, such as "RSA", by its parameters. Null if they are null or no key, or if memory ran out. */

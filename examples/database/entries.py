@@ -15,8 +15,8 @@ ALGORITHMS = ("sha1", "sha256", "sha512")
 
 
 def digests_of(key):
-    """The digests by which the store finds the principals that can name a key, as octets. `key` is its text in canonical form. If the store finds
-    other principals too, that does no harm: the guard decides by the entries themselves."""
+    """The digests by which the store finds the principals that can name a key, as octets: one by each of ALGORITHMS. `key` is its text in canonical
+    form. If the store finds other principals too, that does no harm: the guard decides by the entries themselves."""
     return [hashlib.new(algorithm, key).digest() for algorithm in ALGORITHMS]
 
 
@@ -29,10 +29,11 @@ def entry(principal, *fields, names=()):
     """The canonical text of an entry for a principal, or for a name of this principal with the strings `names`. `fields` are `(tag ..)`,
     `(propagate)` and so on.
 
-    Principal and fields are texts of one value each, in any of the three forms, as octets. Each is read by itself, and none can run into another.
-    Raises `spki.Refused` or `ValueError` if they make no entry.
+    Principal and fields are texts of one value each, in any of the three forms, as octets. Each is read by itself, so none can change another. Raises
+    `spki.Refused` or `ValueError` if they make no entry.
     """
     principal = spki.canonical(principal)
+    # (the string at the place 0 of a list is its head)
     if spki.string_at(principal, 0) not in PRINCIPALS:
         raise ValueError("a principal is a public key or a hash")
     subject = b"(4:name%s%s)" % (principal, b"".join(map(string, names))) if names else principal
@@ -57,14 +58,15 @@ class Service:
 
     def __init__(self, store, policy=spki.Policy.STRICT, limits=LIMITS):
         self.store, self.policy, self.limits = store, policy, limits
+        # (a guard of no entries, which reads a question before its entries are known)
         self.no_entries = guard_of([], policy, limits)
 
     def decide(self, question, verify):
-        """The number, in the store, of the first entry that grants the request. `None` if no entry does.
+        """The number, in the store, of the first entry that grants `question`, a `spki.Question`. `None` if no entry does.
 
         Raises `spki.Refused` if a part of the question cannot be read, or the entries found have over 1 MiB together, and what psycopg raises if
-        the database does not answer. `verify(signature)` is called once for each signature, in order, up to the first that is not valid; and
-        not at all if the entries found grant nothing, whatever is valid.
+        the database does not answer. `verify(signature)`, which returns whether a signature is valid, is called once for each signature, in order, up
+        to the first that is not valid; and not at all if the entries found grant nothing, whatever is valid.
         """
         # (a guard without entries reads the parts, and lists the signatures. If certificates are shown and none is listed, the first has a fault,
         # such as another digest: then no entry grants, so any rows may be read)

@@ -1,9 +1,8 @@
 #!/usr/bin/env python3
 """A service whose access list is a table of a database: its entries come and go while it answers.
 
-Alice has an entry, by the hash of her key, and passes a part of her right on to Bob. Bob signs requests. Then the same
-after the entry is removed, and after it is added again. The keys are made as in examples/signed/, and need `cryptography`
-(Debian: python3-cryptography).
+Alice has an entry, by the hash of her key, and passes a part of her right on to Bob. All sign requests by the code of examples/signed/run.py. Bob
+asks again after the entry is removed, and after it is added again. The keys need `cryptography` (Debian: python3-cryptography).
 
 The store is in the schema `spki_story` of the PostgreSQL whose settings of libpq are given. It must not be there, and is dropped at the end. Needs
 psycopg (Debian: python3-psycopg). Build the program and the library first (`rt run` in crates/spki, crates/spki_c/archive.py).
@@ -37,7 +36,7 @@ RIGHTS = b"(tag (packages (* set read write)))"
 
 def answers(store):
     """Asks one request after the other while Alice's entry is added to `store`, a `Store`, and removed. Yields for each answer whether it is the
-    expected one."""
+    expected one. Carol's key is in no certificate."""
     alice, bob, carol = map(Pair, (RSA, ED25519, ED25519))
     to_bob = f'(cert (issuer {alice.principal}) (subject {bob.principal}) (tag (packages read)) (not-after "9999-12-31_23:59:59"))'
     sequence = f"(sequence {alice.text} {signed(to_bob, alice)})"
@@ -69,8 +68,8 @@ def answers(store):
 
 
 def main():
-    """Makes the store, asks, and removes the store. Returns the exit status: 0 if each answer is the expected one, otherwise 1. Ends with 1 too for
-    wrong arguments, or if no store can be made."""
+    """Makes the store, asks, and removes the store, with the roles of the database that it has made. Returns the exit status: 0 if each answer is the
+    expected one, otherwise 1. Ends with 1 too for wrong arguments, or if no store can be made."""
     if len(sys.argv) != 2:
         sys.exit("Usage: examples/database/story.py SETTINGS")
     try:

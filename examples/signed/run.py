@@ -80,9 +80,9 @@ class Story:
 
 
 def signed(certificate, pair, named=None, changed=None):
-    """A certificate, a text, and its signature by a pair, as one text: the octets that are signed are those of `spki canonical`.
+    """A certificate, a text, and its signature by a `Pair`, as one text: the octets that are signed are those of `spki canonical`.
 
-    A forger says that the signature is by another pair (`named`), or shows another certificate than the one that was signed (`changed`).
+    A forger says that the signature is by another pair (`named`), or shows another certificate than the one that was signed (`changed`, a text).
     """
     octets = canonical(certificate)
     digest, signer = laid_out(hash_of(read(octets))), (named or pair).principal
@@ -91,6 +91,7 @@ def signed(certificate, pair, named=None, changed=None):
 
 def with_digest_of(other, item):
     """`item`, a certificate and its signature as `signed` returns them, but with the digest of the certificate `other` in the signature."""
+    # (in parentheses both are one value, which can be read)
     certificate, signature = read(canonical(f"({item})"))
     # (a signature is `(signature HASH PRINCIPAL VALUE)`)
     signature[1] = hash_of(read(canonical(other)))
@@ -105,6 +106,7 @@ def changed_bit(value):
 def with_changed_bit(item):
     """`item`, a certificate and its signature as `signed` returns them, with one bit of the signature's value changed."""
     certificate, signature = read(canonical(f"({item})"))
+    # (a signature is `(signature HASH PRINCIPAL VALUE)`)
     signature[3] = read(changed_bit(sexp.canonical(signature[3])))
     return f"{laid_out(certificate)} {laid_out(signature)}"
 
@@ -116,9 +118,9 @@ def in_braces(sequence):
 
 
 def asked_by(pair, words, sequence="(sequence)", name=NAME, named=None):
-    """The method, the target and the fields of a request that the holder of `pair` signs. `words` are those of the request, such as READ. `sequence`
-    is what is shown, as `in_braces` takes it, and `name` the host for which it is signed. A forger says that it is by the key of another pair
-    (`named`)."""
+    """The method, the target and the fields, a dictionary, of a request that the holder of `pair` signs. `words` are those of the request, such as
+    READ. `sequence` is what is shown, as `in_braces` takes it, and `name` the host for which the request is signed. A forger says that it is by the
+    key of another pair (`named`)."""
     method = next(method for method, action in METHODS.items() if action == words[1])
     target = urllib.parse.quote(words[2])
     signer = spki_http.Signer(sexp.canonical((named or pair).key), pair.sign, in_braces(sequence))
@@ -132,8 +134,8 @@ class Service:
         self.access_list, self.verifier = read(canonical(access_list)), spki_http.Verifier(NAME)
 
     def ask(self, method, target, fields, moment):
-        """The case (`sexp.Value`), and the status and the answer of `spki check` for it. The client sends all but `moment`, a date in the form of
-        NOON.
+        """The case (`sexp.Value`), and the status and the answer of `spki check` for it. The client sends the method, the target and the fields, and
+        no body. `moment` is the time of the service, a date in the form of NOON.
 
         Raises `spki_http.Refused` if the request proves no key, and `ValueError` for another method and for a sequence that is too long, is none,
         or has too many certificates.
@@ -155,8 +157,8 @@ class Service:
 
 
 def requests(story):
-    """Yields the requests that come: a remark; method, target and fields, as `asked_by` returns them; and the name of the refusal that the service
-    must answer, or None if the request proves a key. All are by the key pairs of `story`, a `Story`."""
+    """Yields the requests that come, each as a remark; method, target and fields, as `asked_by` returns them; and the name of the refusal that the
+    service must answer, or None if the request proves a key. All are by the key pairs of `story`, a `Story`."""
     alice, bob, carol = story.alice, story.bob, story.carol
     good = asked_by(carol, READ)
     # (another one, with a nonce of its own, that is changed in what follows)
@@ -179,7 +181,8 @@ def requests(story):
 
 
 def try_request(service, remark, request, wanted):
-    """Asks a service, a `Service`, by a row of `requests`. Prints the refusal or that a key is proved, and returns whether that is as wanted."""
+    """Asks a service, a `Service`, by what `requests` yields: the arguments behind it. Prints the name of the refusal, or that a key is proved, and
+    returns whether that is as expected."""
     try:
         service.ask(*request, NOON)
         name = None
@@ -189,7 +192,7 @@ def try_request(service, remark, request, wanted):
     return name == wanted
 
 
-def unasked(story):
+def refused_sequences(story):
     """Yields the sequences that the service refuses before it asks `spki check`: a remark, and the sequence as octets in canonical form."""
     good = signed(story.to_carol, story.bob)
     yield "the sequence is too long", sexp.canonical([b"sequence", bytes(MOST_SHOWN)])
@@ -201,8 +204,8 @@ def unasked(story):
     yield "a certificate has no fields", b"(8:sequence(4:cert)(9:signature))"
 
 
-def try_unasked(story, remark, sequence):
-    """Asks with a sequence of `unasked`, prints the refusal, and returns whether there was one."""
+def try_refused_sequence(story, remark, sequence):
+    """Asks a new service with a sequence of `refused_sequences`, prints the refusal, and returns whether there was one."""
     try:
         Service(story.access_list).ask(*asked_by(story.carol, READ, sequence), NOON)
     except ValueError as why:
@@ -214,7 +217,8 @@ def try_unasked(story, remark, sequence):
 
 def attempts(story):
     """Yields what is tried: a name, which becomes that of a file; a remark; the text of the sequence; the key pair that asks; the words of the
-    request; the moment; and the line of `spki explain` that says what is wrong, or None if the request is to be granted."""
+    request; the moment; and the line of `spki explain` that says what is wrong, or None if the request is to be granted. In the sequence Alice's key
+    is item 1, and each certificate is in front of its signature: Alice's two are the items 2 and 4, and the last is 6."""
     bob, carol = story.bob, story.carol
     good = signed(story.to_carol, bob)
     longer = story.to_carol.replace("2026-06-30", "2027-06-30")
@@ -239,7 +243,7 @@ def attempts(story):
 
 def wanted_lines(wrong):
     """What `explain` should write. `wrong` is the line that names the fault, or None for a grant. If a certificate fails a test, that is the only
-    line. Otherwise there is a line for each of the two entries.
+    line, and begins with `item`. Otherwise there is a line for each of the two entries.
 
     Entry 2 is Bob's. The first certificate, item 2, is by Alice, so the chain of Bob's entry always stops there.
     """
@@ -249,8 +253,8 @@ def wanted_lines(wrong):
 
 
 def attempt(story, folder, name, remark, sequence, holder, words, moment, wrong):
-    """Asks a new service by a row of `attempts`, whose members are the arguments behind `folder`. Prints the answers, writes the case to the file
-    NAME.sexp of the folder, and returns whether the answers are as wanted and this text is read as the case."""
+    """Asks a new service by what `attempts` yields: the arguments behind `folder`. Prints the answers, writes the case to the file NAME.sexp of the
+    folder, and returns whether the answers are as expected and this text is read as the case."""
     case, status, answer = Service(story.access_list).ask(*asked_by(holder, words, sequence), moment)
     answer, text = answer.decode(), laid_out(case) + "\n"
     explained = spki("explain", text)[1].decode()
@@ -293,7 +297,7 @@ def main():
         service = Service(story.access_list)
         results = [try_request(service, *each) for each in requests(story)]
         print("\nNot asked:")
-        results += [try_unasked(story, *each) for each in unasked(story)]
+        results += [try_refused_sequence(story, *each) for each in refused_sequences(story)]
         results += [attempt(story, folder, *each) for each in attempts(story)]
     print(f"\n{sum(results)} passed, {len(results) - sum(results)} failed")
     return 0 if all(results) else 1

@@ -19,8 +19,8 @@ export function showNotice(id, text) {
 }
 
 export class Answer {
-  /** `boxes` are all boxes of the page by their names. `changed` is called when a signature was ticked or no longer is, or all at once. The field
-    * `refused` has the places, from 0, of the signatures that do not count. Draws the picture again when its width changes. */
+  /** `boxes` are all boxes of the page by their names. The function `changed` is called when a user has changed the tick of a signature, or of all.
+    * The field `refused` has the places, from 0, of the signatures that do not count. Draws the picture again when its width changes. */
   constructor(boxes, changed) {
     this.boxes = boxes;
     this.changed = changed;
@@ -55,7 +55,7 @@ export class Answer {
     setText(byId("text"), answer.case ?? "");
   }
 
-  /** Shows that there is no answer, and why. Nothing of an earlier one is left. */
+  /** Shows that there is no answer, and why. The signatures of an earlier answer are dimmed, and the rest of it is hidden. */
   showNone(why) {
     showNotice("notice", "");
     this.showVerdict("none", "No answer", why, "");
@@ -73,8 +73,8 @@ export class Answer {
     setText(byId("line"), "");
   }
 
-  /** Shows the decision: its kind, which styles it, and that as a word, its title as `text`, and its line. `exact` is the tooltip of the line, and
-    * has the line of `spki`, since the shown one may have other numbers. */
+  /** Shows the decision: its kind, such as `yes`, which styles it, and that as a word, its title as `text`, and its line. `exact` is the tooltip of
+    * the line, and has the line of `spki`, since the shown one may have other numbers. */
   showVerdict(kind, word, text, line, exact = "") {
     byId("verdict").dataset.kind = kind;
     byId("line").title = exact;
@@ -124,13 +124,14 @@ export class Answer {
     return htmlElement("li", { class: isFirst ? "first" : "", "data-kind": answer.kind }, htmlElement("p", {}, reason.says), hint, line);
   }
 
-  /** Lists the rights that remain of the entries, each with who holds it. Hides the list if the answer has none of them yet. */
+  /** Lists the rights that remain of the entries, each with who holds it. Hides the list if the answer has no field `rights` yet. A right with the
+    * field `before` is that in front of the certificate that stops the chain, so it is none at the end. */
   showRights(answer) {
     const rights = answer.rights ?? [];
     byId("rights-card").hidden = !answer.rights;
     byId("rights").replaceChildren(...rights.map((right) => htmlElement("li", {}, htmlElement("strong", {}, right.holder),
-      `${right.before ? ` before certificate ${right.before}` : ""} by entry ${right.entry}, ${right.window}${right.passes ? ", may be passed on" : ""}`,
-      htmlElement("code", {}, right.tag))),
+      `${right.before ? ` before certificate ${right.before}` : ""} by entry ${right.entry}, ${right.window}`,
+      right.passes ? ", may be passed on" : "", htmlElement("code", {}, right.tag))),
     rights.some((right) => !right.before) ? "" : htmlElement("li", {}, "Nothing remains at the end."));
   }
 
@@ -144,12 +145,12 @@ export class Answer {
     }
     this.signaturesKey = key;
     const focused = [...byId("signatures").querySelectorAll("input")].indexOf(document.activeElement);
-    byId("signatures").replaceChildren(...answer.signatures.map((signature, place) => this.tick(signature, place)));
+    byId("signatures").replaceChildren(...answer.signatures.map((signature, place) => this.signatureItem(signature, place)));
     byId("signatures").querySelectorAll("input")[focused]?.focus();
   }
 
   /** The element of HTML for a signature, by its place from 0: a tick, which says whether the signature counts, and who signed what. */
-  tick(signature, place) {
+  signatureItem(signature, place) {
     const tick = htmlElement("input", { type: "checkbox" });
     tick.checked = !this.refused.includes(place);
     tick.addEventListener("change", () => {

@@ -14,7 +14,7 @@ export class Box {
     this.faults = htmlElement("ul", { class: "fault", id: `${this.name}-fault` });
     element.append(htmlElement("div", { class: "field" }, this.mirror, this.text), this.faults);
     this.text.addEventListener("input", () => {
-      this.reflect();
+      this.fillMirror();
       changed();
     });
     this.showFault(null);
@@ -34,7 +34,7 @@ export class Box {
   /** Shows a refusal, an object: its line (`shown` or `line`), and its `places` with their remarks, as `place.py` makes them. For null shows none. */
   showFault(fault) {
     const places = fault?.places ?? [];
-    this.reflect(places[0]);
+    this.fillMirror(places[0]);
     this.text.setAttribute("aria-invalid", String(Boolean(fault)));
     const key = JSON.stringify(fault);
     if (key === this.faultKey) {
@@ -42,11 +42,12 @@ export class Box {
     }
     this.faultKey = key;
     // (four places are enough: a deep text may have one for each list that is open)
-    this.faults.replaceChildren(...(fault ? [this.remark(fault, places[0]), ...places.slice(1, 4).map((place) => this.further(place))] : []));
+    const further = places.slice(1, 4).map((place) => this.furtherItem(place));
+    this.faults.replaceChildren(...(fault ? [this.firstItem(fault, places[0]), ...further] : []));
   }
 
   /** The element of HTML for the first place of a refusal, or for a refusal without a place. */
-  remark(fault, place) {
+  firstItem(fault, place) {
     const line = htmlElement("code", {}, ` ${fault.shown ?? fault.line}`);
     if (!place) {
       return htmlElement("li", {}, "This is refused.", line);
@@ -55,7 +56,7 @@ export class Box {
   }
 
   /** The element of HTML for a further place of a refusal. */
-  further(place) {
+  furtherItem(place) {
     return htmlElement("li", { class: "further" }, this.placeButton(place), `: ${place.why}`);
   }
 
@@ -69,8 +70,8 @@ export class Box {
     return button;
   }
 
-  /** Copies the text into the mirror, with a place underlined if one is given. */
-  reflect(place) {
+  /** Copies the text into the mirror, which lies behind it. If `place` is given, an object with `begin` and `end`, the text between is underlined. */
+  fillMirror(place) {
     // (a line feed at the end has no height without something behind it: here a space of no width)
     const text = this.value, end = "\u200b";
     if (!place) {

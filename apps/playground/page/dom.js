@@ -24,7 +24,7 @@ function fill(element, attributes, contents) {
 /** The element of the page with an id. */
 export const byId = (id) => document.getElementById(id);
 
-/** Puts a text into an element that has another one. If it has this text already, a screen reader would read it out again. */
+/** Sets the text of an element, unless it has this text already: a screen reader would read it out again. */
 export function setText(element, text) {
   if (element.textContent !== text) {
     element.textContent = text;

@@ -24,7 +24,7 @@ export function inputValueOf(time) {
 }
 
 export class Times {
-  /** `changed` is called when the slider was moved. */
+  /** The function `changed` is called when a user has moved the slider. */
   constructor(changed) {
     this.slider = byId("slider");
     this.moment = byId("at");
@@ -34,7 +34,7 @@ export class Times {
     this.slider.addEventListener("input", () => {
       const time = Math.round(this.low + (Number(this.slider.value) / STEPS) * (this.high - this.low));
       this.moment.value = inputValueOf(time);
-      this.follow();
+      this.moveSlider();
       changed();
     });
   }
@@ -45,14 +45,14 @@ export class Times {
     byId("slider").closest(".times").hidden = !answer.spans;
     this.spans = answer.spans ?? [];
     this.limits = (answer.limits ?? []).map(secondsOf);
-    this.fit();
+    this.chooseEnds();
     this.draw();
-    this.follow();
-    setText(byId("span"), this.words() + (answer.isWhole === false ? " Later limits are left out." : ""));
+    this.moveSlider();
+    setText(byId("span"), this.spansInWords() + (answer.isWhole === false ? " Later limits are left out." : ""));
   }
 
   /** Chooses the ends of the scale: around the limits and the moment. It keeps them while they hold all of these and the limits are the same. */
-  fit() {
+  chooseEnds() {
     const chosen = secondsOf(this.moment.value);
     const points = [...this.limits, ...(Number.isNaN(chosen) ? [] : [chosen])];
     const low = Math.min(...points), high = Math.max(...points);
@@ -85,14 +85,14 @@ export class Times {
   }
 
   /** Puts the slider where the moment is. */
-  follow() {
+  moveSlider() {
     const time = secondsOf(this.moment.value);
     this.slider.value = String(Math.round(((time - this.low) / (this.high - this.low)) * STEPS));
     this.slider.setAttribute("aria-valuetext", this.moment.value.replace("T", " "));
   }
 
   /** When the answer is yes, in words: in which spans, at most five of them. Empty if no spans are known. */
-  words() {
+  spansInWords() {
     const granted = this.spans.filter((span) => span.answer !== "no");
     if (!this.spans.length) {
       return "";

@@ -1,3 +1,5 @@
+// A question that a guard has read. Its signatures have places: the first has the place 0. A mark says that the signature at a place is valid.
+
 package guard
 
 import (
@@ -28,7 +30,7 @@ type sharedAsked struct {
 	markedInOrder int
 }
 
-// close frees the memory of the question, if it is open. Go's collector calls it too, once no copy is left.
+// close frees the memory of the question, if it is open. Go's collector calls it too, as a finalizer, once no copy is left.
 func (s *sharedAsked) close() {
 	s.mutex.Lock()
 	defer s.mutex.Unlock()
@@ -72,9 +74,10 @@ func (a *Asked) Count() int {
 	return a.count
 }
 
-// Each calls a function with the place, from 0, of each signature that the decision depends on, and with the signature, in order, until it returns
-// false: then the error is nil. Each signature is copied just before its call. Neighbours with equal keys share the octets of the key: do not change
-// them. The error is ErrMemory, or ErrClosed if the question is closed before or meanwhile, also if it has no signature.
+// Each calls a function with the place, from 0, of each signature that the decision depends on, and with the signature, in the order of the
+// sequence. It ends without an error when the function returns false. Each signature is copied just before its call. Neighbours with equal keys share
+// the octets of the key: do not change them. The error is ErrMemory, or ErrClosed if the question is closed before Each ends, also if it has no
+// signature.
 func (a *Asked) Each(use func(place int, signed Signature) bool) error {
 	var previous Signature
 	for place := 0; place < a.count; place++ {
@@ -90,8 +93,8 @@ func (a *Asked) Each(use func(place int, signed Signature) bool) error {
 	return a.expectOpen()
 }
 
-// Signatures returns copies of all signatures that the decision depends on, in order; nil if the question is closed, or an allocation failed.
-// Neighbours with equal keys share the octets of the key: do not change them.
+// Signatures returns copies of all signatures that the decision depends on, in the order of the sequence. It is nil if the question is closed, or an
+// allocation failed. Neighbours with equal keys share the octets of the key: do not change them.
 func (a *Asked) Signatures() []Signature {
 	listed := make([]Signature, 0, a.count)
 	if a.Each(func(_ int, signed Signature) bool { listed = append(listed, signed); return true }) != nil {
@@ -100,8 +103,8 @@ func (a *Asked) Signatures() []Signature {
 	return listed
 }
 
-// signature returns a copy of the signature at a place, from 0, which must be below the count. If its key equals `key`, the result has `key` itself,
-// so that no key is copied twice. The error is ErrClosed or ErrMemory.
+// signature returns a copy of the signature at a place, from 0, which must be below the count. `key` is the key of the signature before it, or nil:
+// if both are equal, the result has `key` itself, so that no key is copied twice. The error is ErrClosed or ErrMemory.
 func (a *Asked) signature(place int, key []byte) (Signature, error) {
 	handle, err := a.lock()
 	if err != nil {
@@ -132,8 +135,8 @@ func (a *Asked) Mark(place int) error {
 	return nil
 }
 
-// Verify calls a function with each signature, in order, up to the first that is not valid, and marks those before it. To explain a denial, call it
-// also where Possible is false. The error is that of Each.
+// Verify calls a function with each signature, in order, up to the first for which it returns false, and marks those before that one. To explain a
+// denial, call it also where Possible is false. The error is that of Each.
 func (a *Asked) Verify(verify Verify) error {
 	return a.VerifyContext(context.Background(), func(_ context.Context, signature Signature) (bool, error) {
 		return verify(signature), nil
@@ -205,14 +208,14 @@ func (a *Asked) Reduce() (string, error) {
 	return a.lines(reduceCommand)
 }
 
-// Close frees the memory of the question. Its guard and other questions stay open. It may be called at any time and more than once.
+// Close frees the memory of the question. Its guard and other questions stay open. Close may be called at any time and more than once.
 func (a *Asked) Close() {
 	if a.shared != nil {
 		a.shared.close()
 	}
 }
 
-// lines returns the lines of Explain or of Reduce, by the command, without the last line feed. The errors are those of Explain.
+// lines returns the lines that explainCommand or reduceCommand writes, without the last line feed. The errors are those of Explain.
 func (a *Asked) lines(command command) (string, error) {
 	handle, err := a.lock()
 	if err != nil {
@@ -222,8 +225,8 @@ func (a *Asked) lines(command command) (string, error) {
 	return lines(handle, command, a.answerOctets)
 }
 
-// isWorthVerifying says whether there is a signature and the request would be granted if all were valid. Otherwise the decision is the same whatever
-// is marked, and Guard.Decide calls no verifier.
+// isWorthVerifying says whether there is a signature and the request would be granted if all were valid. Otherwise the decision is the same whichever
+// signatures are marked, and Guard.Decide calls no verifier.
 func (a *Asked) isWorthVerifying() bool {
 	return a.count > 0 && a.Possible()
 }

@@ -1,3 +1,5 @@
+// The answer yes or no of a Guard, by the library's line `yes entry N` or `no`.
+
 package guard
 
 import (

@@ -1,3 +1,5 @@
+// Why a request is granted or denied, by the lines of the library's command explain.
+
 package guard
 
 import (

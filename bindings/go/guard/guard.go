@@ -178,7 +178,7 @@ func (g *Guard) decideAndLog(question Question, decide func() (Decision, error))
 	return decision, err
 }
 
-// decide is Decide without the log.
+// decide is Decide without the log. It verifies no signature if the decision does not depend on them.
 func (g *Guard) decide(question *Question, verify Verify) (Decision, error) {
 	asked, err := g.ask(question)
 	if err != nil {
@@ -199,7 +199,7 @@ func (g *Guard) DecideContext(ctx context.Context, question Question, verify Ver
 	return g.decideAndLog(question, func() (Decision, error) { return g.decideContext(ctx, &question, verify) })
 }
 
-// decideContext is DecideContext without the log.
+// decideContext is DecideContext without the log. It verifies no signature if the decision does not depend on them.
 func (g *Guard) decideContext(ctx context.Context, question *Question, verify VerifyContext) (Decision, error) {
 	asked, err := g.ask(question)
 	if err != nil {

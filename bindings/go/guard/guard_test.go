@@ -1,3 +1,8 @@
+// Tests of guards. Keys and signatures are words, such as a and `sig`: the verifier of a test says which signatures are valid. By `list`, an access
+// list, the key a may do everything. By the certificate `forB`, a lets b do it. questionWith(n) is a question by b, who shows `forB` n times: it can
+// be granted for n = 1 alone. By `forA` a lets itself do everything, so it may be in front of `forB`. `forgedForC` is for c, and its signature is not
+// valid. acceptAll and acceptNone are verifiers. A place is the number of a signature in its question, from 0.
+
 package guard_test
 
 import (
@@ -19,8 +24,7 @@ import (
 	"conguraki/spki/guard"
 )
 
-// What the tests ask: by `list` key a may do everything, and by the certificate `forB` a lets b do it. Keys and signatures are
-// words, such as a and `sig`: the verifier of each test says which signatures are valid.
+// Each signature has the SHA-256 hash of its certificate.
 const (
 	list = "(acl (entry (public-key (test a)) (propagate) (tag (*))))"
 	forB = `(cert (issuer (public-key (test a))) (subject (public-key (test b))) (tag (*)))
@@ -34,8 +38,8 @@ var signatureForB = []string{
 	"3:sig",
 }
 
-// questionWith returns a question by b, who shows the certificate `forB` so many times. Under `list` it can be granted for 1 alone: behind the first
-// the subject is b, and the next issuer is a.
+// questionWith returns a question by b, who shows the certificate `forB` so many times. Under `list` it can be granted for 1 alone: a second `forB`
+// has the issuer a, and the subject of the first is b. For 0 b shows no certificate.
 func questionWith(times int) guard.Question {
 	return guard.Question{
 		Sequence: []byte("(sequence " + strings.Repeat(forB, times) + ")"), Key: spki.AssumeKey([]byte("(public-key (test b))")),
@@ -54,8 +58,7 @@ func openGuard(t testing.TB, list string) *guard.Guard {
 	return opened
 }
 
-// By `forA`, a lets itself do everything: such a certificate may stand in front of another one, also twice. By `forgedForC`, c has a certificate in
-// the name of a, whose signature is not valid.
+// The issuer of both certificates is a. The signature of `forgedForC` has the value `forged`, where a valid one has `sig`.
 const (
 	forA = `(cert (issuer (public-key (test a))) (subject (public-key (test a))) (propagate) (tag (*)))
 		(signature (hash sha256 #b26a73c3cdcb26bbb71fa21531b5b6a1745fc316ddfcf53862a174f5dccebfb6#) (public-key (test a)) sig)`
@@ -63,8 +66,9 @@ const (
 		(signature (hash sha256 #b0c7e53153c3b09dad60263b3b4738aa1ae756cc4642305bcf4fdc4114ff0d5d#) (public-key (test a)) forged)`
 )
 
-// askMarked asks a guard a question, marks its signatures at these places, and returns it. It is closed when the test ends.
-func askMarked(t testing.TB, opened *guard.Guard, question guard.Question, places ...int) *guard.Asked {
+// askAndMark asks a guard a question, marks its signatures at these places, of which there may be none, and returns it. It is closed when the test
+// ends.
+func askAndMark(t testing.TB, opened *guard.Guard, question guard.Question, places ...int) *guard.Asked {
 	t.Helper()
 	asked, err := opened.Ask(question)
 	if err != nil {
@@ -79,7 +83,7 @@ func askMarked(t testing.TB, opened *guard.Guard, question guard.Question, place
 	return asked
 }
 
-// isGranted says whether a question is granted by its marks. The test ends if there is no decision.
+// isGranted says whether a question is granted by its marks. The test fails and ends if Decide returns an error.
 func isGranted(t testing.TB, asked *guard.Asked) bool {
 	t.Helper()
 	decision, err := asked.Decide()
@@ -89,13 +93,14 @@ func isGranted(t testing.TB, asked *guard.Asked) bool {
 	return decision.Granted()
 }
 
-// valid is a verifier for which each signature is valid.
-func valid(guard.Signature) bool { return true }
+// acceptAll is a verifier for which each signature is valid.
+func acceptAll(guard.Signature) bool { return true }
 
-// invalid is a verifier for which no signature is valid.
-func invalid(guard.Signature) bool { return false }
+// acceptNone is a verifier for which no signature is valid.
+func acceptNone(guard.Signature) bool { return false }
 
-// TestVerifierIsGivenWhatIsSigned decides by a verifier that accepts the signature of `forB` alone, and by one that accepts none.
+// TestVerifierIsGivenWhatIsSigned decides by a verifier that accepts the signature of `forB` alone, and by one that accepts none. So the first is
+// given exactly the key, the message and the value of that signature, once.
 func TestVerifierIsGivenWhatIsSigned(t *testing.T) {
 	calls := 0
 	decision, err := openGuard(t, list).Decide(questionWith(1), func(signature guard.Signature) bool {
@@ -105,14 +110,14 @@ func TestVerifierIsGivenWhatIsSigned(t *testing.T) {
 	if err != nil || !decision.Granted() || decision.Entry() != 1 || calls != 1 || decision.String() != "yes entry 1" {
 		t.Errorf("%v, %v, %d calls", decision, err, calls)
 	}
-	decision, err = openGuard(t, list).Decide(questionWith(1), invalid)
+	decision, err = openGuard(t, list).Decide(questionWith(1), acceptNone)
 	if err != nil || decision.Granted() || decision.Entry() != 0 || decision.String() != "no" {
 		t.Errorf("%v, %v", decision, err)
 	}
 }
 
-// TestZeroIsNoYes shows that the zero Decision is a no, and that the zero Policy is Strict, under which a hash by SHA-1 names no key.
-func TestZeroIsNoYes(t *testing.T) {
+// TestZeroValuesGrantNothing shows that the zero Decision is a no, and that the zero Policy is Strict, under which a hash by SHA-1 names no key.
+func TestZeroValuesGrantNothing(t *testing.T) {
 	if (guard.Decision{}).Granted() {
 		t.Error("the zero Decision grants")
 	}
@@ -123,16 +128,16 @@ func TestZeroIsNoYes(t *testing.T) {
 		if err != nil {
 			t.Fatal(err)
 		}
-		if decision, err := opened.Decide(questionWith(0), invalid); err != nil || decision.Granted() != wanted {
+		if decision, err := opened.Decide(questionWith(0), acceptNone); err != nil || decision.Granted() != wanted {
 			t.Errorf("%v: %v, %v", policy, decision, err)
 		}
 		opened.Close()
 	}
 }
 
-// TestVerifierStopsAtTheFirstWrongOne shows three certificates, of which the second has a wrong signature. The third is not verified. The second
-// is item 3, since each signature is an item too.
-func TestVerifierStopsAtTheFirstWrongOne(t *testing.T) {
+// TestVerifierStopsAtTheFirstWrongSignature shows three certificates, of which the second has a wrong signature. The third is not verified. The
+// second is item 3 of the sequence, since each signature is an item too.
+func TestVerifierStopsAtTheFirstWrongSignature(t *testing.T) {
 	question, calls := questionWith(3), 0
 	question.Sequence = []byte("(sequence " + forB + strings.Replace(forB, "sig)", "wrong)", 1) + forB + ")")
 	explanation, err := openGuard(t, list).Explain(question, func(signature guard.Signature) bool {
@@ -146,9 +151,9 @@ func TestVerifierStopsAtTheFirstWrongOne(t *testing.T) {
 }
 
 // TestMarkOfNoPlace marks places that the question does not have, which is ErrMisused and marks nothing, and then its only place, 0, twice. Some of
-// the former are 0 in their last octet.
+// the former would be 0 if they were cut to their lowest octet.
 func TestMarkOfNoPlace(t *testing.T) {
-	asked := askMarked(t, openGuard(t, list), questionWith(1))
+	asked := askAndMark(t, openGuard(t, list), questionWith(1))
 	if listed := asked.Signatures(); len(listed) != 1 || string(listed[0].Message) != signatureForB[1] || !asked.Possible() {
 		t.Errorf("%q", listed)
 	}
@@ -180,8 +185,9 @@ func verifiedOf(t *testing.T, opened *guard.Guard, question guard.Question, plac
 	return asked.Verified()
 }
 
-// TestDecideVerified decides by signatures that are known to be valid. A row has the places that are marked, how many marks count, and the entry that
-// grants the request, or 0. At the end, the function of a log changes the sequence that it gets, which is a copy.
+// TestDecideVerified decides by signatures that are known to be valid. A row has the places that are marked, in this order, the argument of First,
+// which keeps so many marks, and the entry that grants the request, or 0. At the end, the function of a log changes the sequence that it gets, which
+// is a copy.
 func TestDecideVerified(t *testing.T) {
 	opened, question := openGuard(t, list), questionWith(1)
 	withSequence := question
@@ -192,7 +198,9 @@ func TestDecideVerified(t *testing.T) {
 		most   int
 		wanted int
 	}{
-		{nil, 2, 0}, {[]int{0}, 2, 0}, {[]int{1}, 2, 0}, {[]int{0, 1}, 2, 1}, {[]int{0, 1}, 1, 0}, {[]int{0, 1}, 99, 1}, {[]int{0, 1}, -1, 0},
+		{nil, 2, 0}, {[]int{0}, 2, 0}, {[]int{1}, 2, 0}, {[]int{0, 1}, 2, 1}, {[]int{0, 1}, 1, 0},
+		// (more than there are, and fewer than none)
+		{[]int{0, 1}, 99, 1}, {[]int{0, 1}, -1, 0},
 		// (the mark of 1 was set before that of 0, so it is left out)
 		{[]int{1, 0}, 2, 0},
 	} {
@@ -219,8 +227,8 @@ func TestDecideVerified(t *testing.T) {
 	}
 }
 
-// TestVerifiedIsOfItsSequence shows that what is known of one sequence counts for no other one, for no other policy, and not after Close. The zero
-// Verified grants nothing here. Octets that are changed after Ask do not matter.
+// TestVerifiedIsOfItsSequence shows that the marks of one sequence count for no other one, for no other policy, and not after Close. The zero
+// Verified has no certificates, so it grants b nothing. Octets that are changed after Ask do not matter.
 func TestVerifiedIsOfItsSequence(t *testing.T) {
 	opened, question := openGuard(t, list), questionWith(1)
 	withSequence, otherSequence := question, append([]byte(nil), question.Sequence...)
@@ -242,6 +250,7 @@ func TestVerifiedIsOfItsSequence(t *testing.T) {
 	if decision, err := opened.DecideVerified(question, guard.Verified{}); err != nil || decision.Granted() {
 		t.Errorf("no certificates: %v, %v", decision, err)
 	}
+	// (the octets that Ask has copied, and the copy that Sequence returns)
 	withSequence.Sequence[len(withSequence.Sequence)-2] ^= 1
 	verified.Sequence()[0] ^= 1
 	if decision, err := opened.DecideVerified(question, verified); err != nil || !decision.Granted() {
@@ -253,18 +262,19 @@ func TestVerifiedIsOfItsSequence(t *testing.T) {
 	}
 }
 
-// TestMarksAreOfOneQuestion asks for two clients at once. What is marked for b grants nothing to c, who shows a forged certificate.
+// TestMarksAreOfOneQuestion asks for two clients at once. What is marked for b grants nothing to c, who shows a forged certificate, and nothing to b
+// in another question. At the end two questions are swapped by value: the marks go with the question, and do not stay with its address.
 func TestMarksAreOfOneQuestion(t *testing.T) {
 	opened, question := openGuard(t, list), questionWith(0)
 	question.Sequence, question.Key = []byte("(sequence "+forgedForC+")"), spki.AssumeKey([]byte("(public-key (test c))"))
-	good, bad, again := askMarked(t, opened, questionWith(1)), askMarked(t, opened, question), askMarked(t, opened, questionWith(1))
+	good, bad, unmarked := askAndMark(t, opened, questionWith(1)), askAndMark(t, opened, question), askAndMark(t, opened, questionWith(1))
 	for _, asked := range []*guard.Asked{good, bad} {
 		err := asked.Verify(func(signature guard.Signature) bool { return string(signature.Value) == "3:sig" })
 		if err != nil || !asked.Possible() {
 			t.Error(err)
 		}
 	}
-	if !isGranted(t, good) || isGranted(t, bad) || isGranted(t, again) {
+	if !isGranted(t, good) || isGranted(t, bad) || isGranted(t, unmarked) {
 		t.Error("a mark counts for another question")
 	}
 	*good, *bad = *bad, *good
@@ -273,8 +283,9 @@ func TestMarksAreOfOneQuestion(t *testing.T) {
 	}
 }
 
-// TestClientsInThreads asks for two clients in several goroutines. Each answer is by the marks of its own question.
-func TestClientsInThreads(t *testing.T) {
+// TestClientsInGoroutines asks for b, and for c, who shows a forged certificate, in three goroutines each. Each answer is by the marks of its own
+// question, so only b's are granted.
+func TestClientsInGoroutines(t *testing.T) {
 	opened, forging := openGuard(t, list), questionWith(0)
 	forging.Sequence, forging.Key = []byte("(sequence "+forgedForC+")"), spki.AssumeKey([]byte("(public-key (test c))"))
 	var all sync.WaitGroup
@@ -283,7 +294,7 @@ func TestClientsInThreads(t *testing.T) {
 		for turn := 0; turn < 200; turn++ {
 			decision, err := opened.Decide(question, func(signature guard.Signature) bool { return string(signature.Value) == "3:sig" })
 			if err != nil || decision.Granted() != wanted {
-				t.Error("a mark for another client counts")
+				t.Errorf("%v, %v, wanted %v", decision, err, wanted)
 			}
 		}
 	}
@@ -295,14 +306,14 @@ func TestClientsInThreads(t *testing.T) {
 	all.Wait()
 }
 
-// TestMarksAreOfOnePlace shows two equal certificates, of which both have to be marked.
+// TestMarksAreOfOnePlace shows `forA` twice, by the key a. One mark, at either place, grants nothing: each of the two equal signatures needs its own.
 func TestMarksAreOfOnePlace(t *testing.T) {
 	question := questionWith(0)
 	question.Sequence, question.Key = []byte("(sequence "+forA+forA+")"), spki.AssumeKey([]byte("(public-key (test a))"))
 	for place := 0; place < 2; place++ {
-		asked := askMarked(t, openGuard(t, list), question, place)
+		asked := askAndMark(t, openGuard(t, list), question, place)
 		if isGranted(t, asked) || asked.Count() != 2 {
-			t.Errorf("the mark of place %d counts for both", place)
+			t.Errorf("the mark at place %d counts for both places", place)
 		}
 		if err := asked.Mark(1 - place); err != nil || !isGranted(t, asked) {
 			t.Error(err)
@@ -315,7 +326,7 @@ func TestMarksAreOfOnePlace(t *testing.T) {
 func TestVerifierThatFailsMarksNothing(t *testing.T) {
 	question, fault := questionWith(0), errors.New("no such key")
 	question.Sequence, question.Key = []byte("(sequence "+forA+forA+")"), spki.AssumeKey([]byte("(public-key (test a))"))
-	asked, calls := askMarked(t, openGuard(t, list), question), 0
+	asked, calls := askAndMark(t, openGuard(t, list), question), 0
 	err := asked.VerifyContext(context.Background(), func(context.Context, guard.Signature) (bool, error) {
 		if calls++; calls == 2 {
 			return true, fault
@@ -330,8 +341,8 @@ func TestVerifierThatFailsMarksNothing(t *testing.T) {
 	}
 }
 
-// TestNothingIsVerifiedInVain asks two questions that are denied whichever signatures are valid, so Decide calls no verifier. Explain does: its lines
-// depend on which are valid.
+// TestNothingIsVerifiedInVain asks two questions that are denied whichever signatures are valid: one with two certificates that do not follow one
+// another, and one under an empty list. So Decide calls no verifier. Explain does: its lines depend on which are valid.
 func TestNothingIsVerifiedInVain(t *testing.T) {
 	calls := 0
 	counted := func(guard.Signature) bool { calls++; return true }
@@ -347,10 +358,10 @@ func TestNothingIsVerifiedInVain(t *testing.T) {
 	}
 }
 
-// TestSignaturesAreOfTheSequence asks with other keys, requests, times and lists. The signatures depend on the sequence alone: a Verified keeps
-// places of a sequence for other questions.
+// TestSignaturesAreOfTheSequence asks with other keys, requests, times and lists. Which signatures are listed depends on the sequence alone. Verified
+// relies on that: it uses the places of one question in others with the same sequence. The changes of a question add up from turn to turn.
 func TestSignaturesAreOfTheSequence(t *testing.T) {
-	otherDigest := strings.Replace(forB, "#d7", "#d8", 1)
+	otherDigest := strings.Replace(forB, "#d7", "#d8", 1) // (a signature for the hash of no certificate)
 	for _, text := range []string{forB, forB + forB, forB + otherDigest + forB, "(public-key (test c)) " + forB} {
 		question := questionWith(0)
 		question.Sequence = []byte("(sequence " + text + ")")
@@ -378,22 +389,23 @@ func TestSignaturesAreOfTheSequence(t *testing.T) {
 	}
 }
 
-// TestQuestionIsCopied changes the octets of a question after Ask. The answer is still that to the question as it was.
+// TestQuestionIsCopied changes the octets of a question after Ask. The answer is still that to the question as it was, also the second time.
 func TestQuestionIsCopied(t *testing.T) {
 	question := questionWith(1)
-	asked := askMarked(t, openGuard(t, list), question, 0)
+	asked := askAndMark(t, openGuard(t, list), question, 0)
 	for place := range question.Sequence {
 		question.Sequence[place] = 'x'
 	}
 	question.Words[0] = ""
 	for turn := 0; turn < 2; turn++ {
 		if !isGranted(t, asked) {
-			t.Error("no")
+			t.Error("the octets of the question are not copied")
 		}
 	}
 }
 
-// TestStringsAreStrings requests by words that have spaces and parentheses. Each stays one string. In a row the words are joined by commas.
+// TestStringsAreStrings requests by words that have spaces, parentheses or no octets. Each stays one string, so a word with a space in it is not two
+// words. In a row the words are joined by commas.
 func TestStringsAreStrings(t *testing.T) {
 	opened := openGuard(t, "(acl (entry (public-key (test b)) (tag (cache (* prefix /cache/team1/) read))))")
 	for words, wanted := range map[string]bool{
@@ -402,26 +414,28 @@ func TestStringsAreStrings(t *testing.T) {
 	} {
 		question := questionWith(0)
 		question.Words = strings.Split(words, ",")
-		if decision, err := opened.Decide(question, valid); err != nil || decision.Granted() != wanted {
+		if decision, err := opened.Decide(question, acceptAll); err != nil || decision.Granted() != wanted {
 			t.Errorf("%q: %v, %v", words, decision, err)
 		}
 	}
 }
 
-// TestRequestAndTimeAsTexts gives both as texts. The second request is `(ftp)` in transport form.
+// TestRequestAndTimeAsTexts gives the request and the time as texts. The second request is `(ftp)` in transport form. The entry grants `(ftp host)`
+// alone.
 func TestRequestAndTimeAsTexts(t *testing.T) {
 	opened := openGuard(t, "(acl (entry (public-key (test b)) (tag (ftp host))))")
 	for text, wanted := range map[string]bool{"(ftp host)": true, "{KDM6ZnRwKQ==}": false, "ftp": false} {
 		question := questionWith(0)
 		question.Words, question.Request = nil, []byte(text)
 		question.Time, question.Moment = time.Time{}, []byte(`"2024-01-01_00:00:00"`)
-		if decision, err := opened.Decide(question, valid); err != nil || decision.Granted() != wanted {
+		if decision, err := opened.Decide(question, acceptAll); err != nil || decision.Granted() != wanted {
 			t.Errorf("%q: %v, %v", text, decision, err)
 		}
 	}
 }
 
-// TestRefusals spoils one part of a question at a time, or the access list.
+// TestRefusals spoils one part of a question at a time, and then the access list. Each is a refusal, whose line a row has as its key. The time of
+// BadDate is in the year 36812.
 func TestRefusals(t *testing.T) {
 	opened := openGuard(t, list)
 	for line, change := range map[string]func(*guard.Question){
@@ -435,7 +449,7 @@ func TestRefusals(t *testing.T) {
 	} {
 		question := questionWith(1)
 		change(&question)
-		decision, err := opened.Decide(question, valid)
+		decision, err := opened.Decide(question, acceptAll)
 		var refusal *guard.Refusal
 		if !errors.Is(err, guard.ErrRefused) || !errors.As(err, &refusal) || refusal.Error() != line || decision.Granted() {
 			t.Errorf("%s: %v, %v", line, decision, err)
@@ -453,34 +467,34 @@ func TestRefusals(t *testing.T) {
 	}
 }
 
-// TestTwoWaysAreMisuse gives a text of the request beside its words, or a text of the time beside Time.
+// TestTwoWaysAreMisuse gives a text of the request beside its words, or a text of the time beside Time. Each is ErrMisused.
 func TestTwoWaysAreMisuse(t *testing.T) {
 	for name, change := range map[string]func(*guard.Question){
 		"request": func(q *guard.Question) { q.Request = []byte("ftp") }, "time": func(q *guard.Question) { q.Moment = []byte(`"2024-01-01_00:00:00"`) },
 	} {
 		question := questionWith(1)
 		change(&question)
-		if decision, err := openGuard(t, list).Decide(question, valid); !errors.Is(err, guard.ErrMisused) || decision.Granted() {
+		if decision, err := openGuard(t, list).Decide(question, acceptAll); !errors.Is(err, guard.ErrMisused) || decision.Granted() {
 			t.Errorf("%s: %v, %v", name, decision, err)
 		}
 	}
 }
 
-// TestUsualLimits exceeds the usual limits of 16 certificates, 64 words and 65,536 octets. The highest limits allow more. A limit above the highest,
-// and a policy that does not exist, are ErrMisused.
+// TestUsualLimits exceeds the usual limits of 16 certificates, 64 words and 65,536 octets, which one word of `long` has. The highest limits allow
+// more. A limit above the highest, as 1,048,577 octets, and a policy that does not exist are ErrMisused.
 func TestUsualLimits(t *testing.T) {
 	opened := openGuard(t, list)
 	many, words, long := questionWith(17), questionWith(1), questionWith(1)
 	words.Words = make([]string, 65)
 	long.Words = []string{strings.Repeat("x", 65_536)}
 	for name, question := range map[string]guard.Question{"certificates": many, "words": words, "octets": long} {
-		if _, err := opened.Decide(question, valid); !errors.Is(err, guard.ErrTooLong) {
+		if _, err := opened.Decide(question, acceptAll); !errors.Is(err, guard.ErrTooLong) {
 			t.Errorf("%s: %v", name, err)
 		}
 	}
 	words.Words[0], words.Words = "x", words.Words[:64]
 	for name, question := range map[string]guard.Question{"certificates": questionWith(16), "words": words} {
-		if _, err := opened.Decide(question, valid); err != nil {
+		if _, err := opened.Decide(question, acceptAll); err != nil {
 			t.Errorf("%s: %v", name, err)
 		}
 	}
@@ -490,7 +504,7 @@ func TestUsualLimits(t *testing.T) {
 	}
 	defer wide.Close()
 	for name, question := range map[string]guard.Question{"certificates": questionWith(40), "octets": long} {
-		if _, err := wide.Decide(question, valid); err != nil {
+		if _, err := wide.Decide(question, acceptAll); err != nil {
 			t.Errorf("%s: %v", name, err)
 		}
 	}
@@ -504,21 +518,23 @@ func TestUsualLimits(t *testing.T) {
 	}
 }
 
-// TestLogged logs a yes, a no, a refusal, and a no of Require, which is logged once. A panic of the log goes on to the caller, so nothing is granted.
+// TestLogged logs a yes, a no, a refusal, and a no of Require, which is logged once. A panic of the function of a log goes on to the caller, so
+// nothing is granted.
 func TestLogged(t *testing.T) {
 	var events []guard.Event
 	opened := openGuard(t, list).Logged(func(event guard.Event) { events = append(events, event) })
 	refused := questionWith(1)
 	refused.Sequence = nil
 	for _, question := range []guard.Question{questionWith(1), questionWith(2), refused} {
-		decision, err := opened.Decide(question, valid)
+		decision, err := opened.Decide(question, acceptAll)
 		last := events[len(events)-1]
 		if last.Decision != decision || last.Err != err || last.Question.Time != question.Time || last.Took < 0 {
 			t.Errorf("%+v, %v, %v", last, decision, err)
 		}
 	}
-	if _, err := opened.Require(context.Background(), questionWith(2), func(context.Context, guard.Signature) (bool, error) { return true, nil }); err == nil {
-		t.Error("a no is required")
+	accept := func(context.Context, guard.Signature) (bool, error) { return true, nil }
+	if _, err := opened.Require(context.Background(), questionWith(2), accept); !errors.Is(err, guard.ErrDenied) {
+		t.Error(err)
 	}
 	if len(events) != 4 || !events[0].Decision.Granted() || events[1].Decision.Granted() || !errors.Is(events[2].Err, guard.ErrRefused) {
 		t.Errorf("%+v", events)
@@ -528,11 +544,11 @@ func TestLogged(t *testing.T) {
 			t.Error("a panic of a log is lost")
 		}
 	}()
-	_, _ = opened.Logged(func(guard.Event) { panic("the disk is full") }).Decide(questionWith(1), valid)
+	_, _ = opened.Logged(func(guard.Event) { panic("the disk is full") }).Decide(questionWith(1), acceptAll)
 }
 
-// TestMisuseIsLogged decides a question with a sequence of its own by a Verified. The log gets the error. The guard is the zero one, since the
-// question does not reach it.
+// TestMisuseIsLogged decides by a Verified a question that has a Sequence too, which is ErrMisused. The log gets the error. The zero Guard suffices,
+// since the question does not reach the library.
 func TestMisuseIsLogged(t *testing.T) {
 	var opened guard.Guard
 	var events []guard.Event
@@ -549,10 +565,10 @@ func TestLimitsOfZeroAreTheLibrarys(t *testing.T) {
 		t.Fatal(err)
 	}
 	defer opened.Close()
-	if decision, err := opened.Decide(questionWith(1), valid); err != nil || !decision.Granted() {
+	if decision, err := opened.Decide(questionWith(1), acceptAll); err != nil || !decision.Granted() {
 		t.Errorf("%v, %v", decision, err)
 	}
-	if _, err := opened.Decide(questionWith(17), valid); !errors.Is(err, guard.ErrTooLong) {
+	if _, err := opened.Decide(questionWith(17), acceptAll); !errors.Is(err, guard.ErrTooLong) {
 		t.Error(err)
 	}
 }
@@ -574,55 +590,58 @@ func TestAClockThatFailed(t *testing.T) {
 	opened := openGuard(t, `(acl (entry (public-key (test b)) (tag (*)) (not-after "1999-12-31_23:59:59")))`)
 	question := questionWith(0)
 	question.Time = time.Unix(0, 0)
-	if decision, err := opened.Decide(question, valid); err != nil || !decision.Granted() {
+	if decision, err := opened.Decide(question, acceptAll); err != nil || !decision.Granted() {
 		t.Errorf("%v, %v", decision, err)
 	}
-	for _, seconds := range []int64{-1, -1 << 31, -62_135_596_801, math.MinInt64, 253_402_300_800, math.MaxInt64} {
+	const yearOne = -62_135_596_800 // (the first second of the year 1, which the zero Time is)
+	for _, seconds := range []int64{-1, -1 << 31, yearOne - 1, math.MinInt64, 253_402_300_800, math.MaxInt64} {
 		question.Time = time.Unix(seconds, 1)
-		decision, err := opened.Decide(question, valid)
+		decision, err := opened.Decide(question, acceptAll)
 		var refusal *guard.Refusal
 		if !errors.As(err, &refusal) || refusal.Error() != "refused at BadDate" || decision.Granted() {
 			t.Errorf("%d: %v, %v", seconds, decision, err)
 		}
-		if _, err := opened.Explain(question, valid); !errors.As(err, &refusal) || refusal.Fault() != "BadDate" {
+		if _, err := opened.Explain(question, acceptAll); !errors.As(err, &refusal) || refusal.Fault() != "BadDate" {
 			t.Errorf("%d: %v", seconds, err)
 		}
 		if _, err := opened.Ask(question); !errors.As(err, &refusal) || refusal.Fault() != "BadDate" {
 			t.Errorf("%d: %v", seconds, err)
 		}
 	}
-	last := openGuard(t, `(acl (entry (public-key (test b)) (tag (*))))`)
-	question.Time = time.Unix(253_402_300_799, 999_999_999)
-	if decision, err := last.Decide(question, valid); err != nil || !decision.Granted() {
+	endless := openGuard(t, `(acl (entry (public-key (test b)) (tag (*))))`)
+	question.Time = time.Unix(253_402_300_799, 999_999_999) // (the last nanosecond of the year 9999)
+	if decision, err := endless.Decide(question, acceptAll); err != nil || !decision.Granted() {
 		t.Errorf("%v, %v", decision, err)
 	}
 }
 
-// TestUntil keeps a grant. It holds up to the not-after of the entry, and no second longer. A grant without a window holds from 1970 on, a no never.
+// TestUntil keeps a grant. It holds up to the not-after of the entry, and no second longer: the same question, asked again, has the same answer. A
+// grant without a window holds from 1970 on, a no never.
 func TestUntil(t *testing.T) {
 	ending := openGuard(t, `(acl (entry (public-key (test a)) (propagate) (tag (*)) (not-after "2026-06-30_23:59:59")))`)
 	last, question := time.Date(2026, 6, 30, 23, 59, 59, 0, time.UTC), questionWith(1)
-	kept, err := ending.Decide(question, valid)
+	kept, err := ending.Decide(question, acceptAll)
 	if err != nil || !kept.Until().Equal(last) {
 		t.Errorf("%v, %v", kept.Until(), err)
 	}
 	for later, holds := range map[time.Duration]bool{-time.Second: true, 0: true, 999 * time.Millisecond: true, time.Second: false} {
 		question.Time = last.Add(later)
-		if decision, err := ending.Decide(question, valid); err != nil || decision.Granted() != holds || kept.HoldsAt(question.Time) != holds {
+		if decision, err := ending.Decide(question, acceptAll); err != nil || decision.Granted() != holds || kept.HoldsAt(question.Time) != holds {
 			t.Errorf("%v: %v, %v, %v", later, decision, err, kept.HoldsAt(question.Time))
 		}
 	}
-	endless, err := openGuard(t, list).Decide(questionWith(1), valid)
+	endless, err := openGuard(t, list).Decide(questionWith(1), acceptAll)
 	if err != nil || !endless.Until().IsZero() || !endless.HoldsAt(last.Add(time.Second)) || endless.HoldsAt(time.Unix(-1, 0)) {
 		t.Errorf("%v, %v", endless, err)
 	}
-	no, err := ending.Decide(questionWith(1), invalid)
+	no, err := ending.Decide(questionWith(1), acceptNone)
 	if err != nil || !no.Until().IsZero() || no.HoldsAt(last) || (guard.Decision{}).HoldsAt(last) {
 		t.Errorf("%v, %v", no, err)
 	}
 }
 
-// TestVerifierThatFails decides by verifiers that answer, fail, or do both, and by a context that ends before or between the signatures.
+// TestVerifierThatFails decides by verifiers that answer, fail, or do both, and by a context that ended before. Require returns the number of the
+// entry, or the same error, or ErrDenied for a no.
 func TestVerifierThatFails(t *testing.T) {
 	opened, away := openGuard(t, list), errors.New("the key store is away")
 	stopped, stop := context.WithCancel(context.Background())
@@ -650,10 +669,15 @@ func TestVerifierThatFails(t *testing.T) {
 			t.Errorf("%s: %d, %v", name, entry, err)
 		}
 	}
-	ends, end := context.WithCancel(context.Background())
+}
+
+// TestContextThatEndsInACall shows three certificates. The first call of the verifier ends the context, so there is no second call, and nothing is
+// granted.
+func TestContextThatEndsInACall(t *testing.T) {
+	ctx, end := context.WithCancel(context.Background())
 	question, calls := questionWith(0), 0
 	question.Sequence = []byte("(sequence " + forA + forA + forB + ")")
-	decision, err := opened.DecideContext(ends, question, func(context.Context, guard.Signature) (bool, error) {
+	decision, err := openGuard(t, list).DecideContext(ctx, question, func(context.Context, guard.Signature) (bool, error) {
 		calls++
 		end()
 		return true, nil
@@ -678,8 +702,8 @@ func questionByLongKey(t testing.TB, times, octets int) guard.Question {
 	return question
 }
 
-// TestSignaturesAreCopiedOneByOne bounds what is allocated for 200 signatures by one key of 100,000 octets by the octets of 10 keys: a signature is
-// copied when it is its turn, and equal keys in a row are copied once.
+// TestSignaturesAreCopiedOneByOne lists 200 signatures by one key of 100,000 octets. No more is allocated than 10 such keys have: a signature is
+// copied just before its call, and the keys of neighbours, which are equal here, are copied once.
 func TestSignaturesAreCopiedOneByOne(t *testing.T) {
 	opened, err := guard.Open([]byte(list), guard.Strict, guard.Highest())
 	if err != nil {
@@ -721,7 +745,7 @@ func TestSignaturesAreCopiedOneByOne(t *testing.T) {
 	}
 }
 
-// TestEachEndsWithItsQuestion closes a question while its first signature is looked at. Each stops there with ErrClosed, also if it is the last.
+// TestEachEndsWithItsQuestion closes a question in the call for its first signature. Each stops there with ErrClosed, also if it is the last one.
 func TestEachEndsWithItsQuestion(t *testing.T) {
 	for _, times := range []int{1, 3} {
 		asked, err := openGuard(t, list).Ask(questionWith(times))
@@ -747,22 +771,23 @@ func TestTooLarge(t *testing.T) {
 		t.Fatal(err)
 	}
 	defer opened.Close()
-	if _, err := opened.Explain(questionWith(1), valid); !errors.Is(err, guard.ErrTooLarge) {
+	if _, err := opened.Explain(questionWith(1), acceptAll); !errors.Is(err, guard.ErrTooLarge) {
 		t.Error(err)
 	}
-	if decision, err := opened.Decide(questionWith(1), valid); err != nil || !decision.Granted() {
+	if decision, err := opened.Decide(questionWith(1), acceptAll); err != nil || !decision.Granted() {
 		t.Errorf("%v, %v", decision, err)
 	}
 }
 
-// TestLongAnswersAreWhole explains and reduces a list of 500 entries.
+// TestLongAnswersAreWhole explains and reduces a list of 500 entries. Neither answer is cut.
 func TestLongAnswersAreWhole(t *testing.T) {
 	opened := openGuard(t, "(acl "+strings.Repeat("(entry (public-key (test b)) (tag (*)))", 500)+")")
-	explanation, err := opened.Explain(questionWith(0), valid)
-	if err != nil || opened.Entries() != 500 || len(explanation.Reasons()) != 500 || explanation.Reasons()[499] != (guard.Reason{Entry: 500, Word: "grants"}) {
+	explanation, err := opened.Explain(questionWith(0), acceptAll)
+	last := guard.Reason{Entry: 500, Word: "grants"}
+	if err != nil || opened.Entries() != 500 || len(explanation.Reasons()) != 500 || explanation.Reasons()[499] != last {
 		t.Errorf("%d, %v", opened.Entries(), err)
 	}
-	lines, err := opened.Reduce(questionWith(0), valid)
+	lines, err := opened.Reduce(questionWith(0), acceptAll)
 	if err != nil || !strings.HasSuffix(lines, "entry 500 (five (subject (public-key (test b))) (tag (*)))") {
 		t.Errorf("%.100q, %v", lines, err)
 	}
@@ -779,15 +804,13 @@ func TestPanicOfVerifier(t *testing.T) {
 		}()
 		_, _ = opened.Decide(questionWith(1), func(guard.Signature) bool { panic("no such key") })
 	}()
-	if decision, err := opened.Decide(questionWith(1), valid); err != nil || !decision.Granted() {
+	if decision, err := opened.Decide(questionWith(1), acceptAll); err != nil || !decision.Granted() {
 		t.Errorf("%v, %v", decision, err)
 	}
 }
 
-// TestForms converts texts among the three forms of RFC 9804, and what is in none of them is refused. The buffer of an answer does not grow with a
-// text that is too long: the 16 MiB of `tooLong` are copied once from the string, and the longest answer to a text within the limit has 3 MiB.
+// TestForms converts texts among the three forms of RFC 9804. What is in none of them is refused.
 func TestForms(t *testing.T) {
-	tooLong := strings.Repeat(" ", 16<<20)
 	canonical, err := guard.Canonical([]byte("(a b)"))
 	if err != nil || string(canonical) != "(1:a1:b)" {
 		t.Errorf("%q, %v", canonical, err)
@@ -812,6 +835,12 @@ func TestForms(t *testing.T) {
 	if _, err := guard.Canonical(nil); fmt.Sprint(err) != "refused form Short" {
 		t.Error(err)
 	}
+}
+
+// TestTooLongTextNeedsNoLongBuffer converts a text of 16 MiB, which is refused. The buffer of an answer does not grow with it: the text is copied
+// once from the string, and the longest answer to a text within the limit has 3 MiB.
+func TestTooLongTextNeedsNoLongBuffer(t *testing.T) {
+	tooLong := strings.Repeat(" ", 16<<20)
 	var before, after runtime.MemStats
 	runtime.ReadMemStats(&before)
 	if _, err := guard.Canonical([]byte(tooLong)); !errors.Is(err, guard.ErrTooLong) {
@@ -845,7 +874,7 @@ func Example() {
 func BenchmarkDecide(b *testing.B) {
 	opened := openGuard(b, list)
 	for turn := 0; turn < b.N; turn++ {
-		if decision, err := opened.Decide(questionWith(1), valid); err != nil || !decision.Granted() {
+		if decision, err := opened.Decide(questionWith(1), acceptAll); err != nil || !decision.Granted() {
 			b.Fatal(decision, err)
 		}
 	}

@@ -42,7 +42,7 @@ const (
 	roomForLine = C.LIBRARY_LINE
 )
 
-// text returns octets as an argument of the library, which reads them where they are during one call.
+// text returns octets as an argument of the library, which reads them where they are during one call. The pointer of an empty text is null.
 func text(octets []byte) C.struct_spki_text {
 	if len(octets) == 0 {
 		return C.struct_spki_text{}
@@ -125,7 +125,8 @@ type arguments struct {
 	lengths          *C.size_t
 }
 
-// argumentsOf returns a question as arguments of a call. It copies all texts but the sequence, whose octets the call reads where they are.
+// argumentsOf returns a question as arguments of a call. It copies all texts but the sequence, whose octets the call reads where they are. `lengths`
+// has three elements at least, those of the key, the request and the moment.
 func argumentsOf(question *Question) arguments {
 	joined, lengths := question.joined()
 	result := arguments{
@@ -141,8 +142,8 @@ func argumentsOf(question *Question) arguments {
 	return result
 }
 
-// ask opens a question, and counts its signatures. The caller closes it. The error is a *Refusal, also if an allocation failed, ErrMisused, or that the
-// library is of another version.
+// ask opens a question, and counts its signatures. The caller closes the question. The error is a *Refusal, also if an allocation failed, ErrMisused,
+// or that the library is of another version.
 func ask(guard guardHandle, question *Question) (asked askedHandle, count int, err error) {
 	args := argumentsOf(question)
 	result := C.library_ask(guard, args.parts, args.sequence, args.joined, args.lengths)
@@ -240,7 +241,7 @@ func convert(command command, source []byte) ([]byte, error) {
 	argument := text(source)
 	status := C.spki_answer(command, argument.octets, argument.length, unsafe.Pointer(&buffer[0]), C.size_t(len(buffer)), &length).status
 	if status == C.SPKI_TOO_SMALL {
-		// (`length` is then that of the answer, and the buffer has fewer octets)
+		// (`length` is then that of the answer, and the buffer has fewer octets. It is the error of a library of another version)
 		return nil, errorOf(status, "")
 	}
 	if status != C.SPKI_DONE {

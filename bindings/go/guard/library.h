@@ -28,7 +28,7 @@ struct library_question {
     int64_t seconds;
 };
 
-/* Opens a guard. A limit of 0 is the usual one. `line` is that of a refusal, if there is one. */
+/* Opens a guard of the access list `list`. A limit of 0 is the usual one. `line` is that of a refusal, if there is one. */
 static inline struct library_result library_open(struct spki_text list, enum spki_policy policy, struct spki_limits limits)
 {
     struct library_result result = {0};
@@ -73,7 +73,7 @@ static inline struct library_result library_ask(const spki_guard *guard, struct 
     return result;
 }
 
-/* Decides a question by its marks. */
+/* Decides a question by its marks: SPKI_YES with the line `yes entry N`, SPKI_NO with `no`, or SPKI_REFUSED with `refused Memory`. */
 static inline struct library_result library_decide(const spki_asked *asked)
 {
     struct library_result result = {0};

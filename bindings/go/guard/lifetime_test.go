@@ -1,3 +1,6 @@
+// Tests of when guards and questions are closed and freed. guard_test.go says what `list`, questionWith(n) and acceptAll are: questionWith(1) is
+// granted under `list` if its one signature, at the place 0, is valid.
+
 package guard_test
 
 import (
@@ -9,11 +12,11 @@ import (
 	"conguraki/spki/guard"
 )
 
-// TestClose closes a guard before its question, and both twice. The question stays open after its guard. Every call after its own Close is
-// ErrClosed.
+// TestClose closes a guard before its question, and both twice. The question stays open after its guard. A call on a guard or a question that is
+// closed is ErrClosed.
 func TestClose(t *testing.T) {
 	opened := openGuard(t, list)
-	asked := askMarked(t, opened, questionWith(1))
+	asked := askAndMark(t, opened, questionWith(1))
 	for turn := 0; turn < 2; turn++ {
 		opened.Close()
 	}
@@ -35,10 +38,11 @@ func TestClose(t *testing.T) {
 	expectUnlisted(t, asked)
 }
 
-// TestCloseOfNoSignatures closes a question that lists no signature. Before, an empty list is no error. After, each call is ErrClosed.
+// TestCloseOfNoSignatures closes a question that lists no signature. Before Close its list is empty, which is no error. After Close each call is
+// ErrClosed, although there is no signature to copy.
 func TestCloseOfNoSignatures(t *testing.T) {
-	asked := askMarked(t, openGuard(t, list), questionWith(0))
-	if listed := asked.Signatures(); listed == nil || len(listed) != 0 || asked.Verify(valid) != nil {
+	asked := askAndMark(t, openGuard(t, list), questionWith(0))
+	if listed := asked.Signatures(); listed == nil || len(listed) != 0 || asked.Verify(acceptAll) != nil {
 		t.Errorf("%v", listed)
 	}
 	asked.Close()
@@ -81,7 +85,7 @@ func TestCopies(t *testing.T) {
 		opened, asked := openCopies()
 		runtime.GC()
 		runtime.GC()
-		if decision, err := opened.Decide(questionWith(1), valid); err != nil || !decision.Granted() {
+		if decision, err := opened.Decide(questionWith(1), acceptAll); err != nil || !decision.Granted() {
 			t.Fatal(decision, err)
 		}
 		if !isGranted(t, &asked) {
@@ -107,7 +111,7 @@ func TestZerosAreClosed(t *testing.T) {
 	var asked guard.Asked
 	opened.Close()
 	asked.Close()
-	if decision, err := opened.Decide(questionWith(1), valid); !errors.Is(err, guard.ErrClosed) || decision.Granted() || opened.Entries() != 0 {
+	if decision, err := opened.Decide(questionWith(1), acceptAll); !errors.Is(err, guard.ErrClosed) || decision.Granted() || opened.Entries() != 0 {
 		t.Errorf("%v, %v", decision, err)
 	}
 	if decision, err := asked.Decide(); !errors.Is(err, guard.ErrClosed) || decision.Granted() || asked.Count() != 0 {
@@ -116,10 +120,11 @@ func TestZerosAreClosed(t *testing.T) {
 	expectUnlisted(t, &asked)
 }
 
-// TestGoroutines uses one guard and one question in eight goroutines.
+// TestGoroutines uses one guard and one question in eight goroutines. Four of them decide by a verifier that accepts, and four by one that does not.
+// All of them mark the same signature, so the question is granted.
 func TestGoroutines(t *testing.T) {
 	opened := openGuard(t, list)
-	asked := askMarked(t, opened, questionWith(1))
+	asked := askAndMark(t, opened, questionWith(1))
 	var all sync.WaitGroup
 	for routine := 0; routine < 8; routine++ {
 		all.Add(1)
@@ -142,7 +147,7 @@ func TestGoroutines(t *testing.T) {
 	all.Wait()
 }
 
-// TestCloseBesideQuestions closes a guard while four goroutines ask it. Each call is answered as before, or is ErrClosed.
+// TestCloseBesideQuestions closes a guard while four goroutines ask it. Each call is a yes, as before Close, or ErrClosed, which ends its goroutine.
 func TestCloseBesideQuestions(t *testing.T) {
 	for turn := 0; turn < 50; turn++ {
 		opened := openGuard(t, list)
@@ -152,7 +157,7 @@ func TestCloseBesideQuestions(t *testing.T) {
 			go func() {
 				defer all.Done()
 				for {
-					decision, err := opened.Decide(questionWith(1), valid)
+					decision, err := opened.Decide(questionWith(1), acceptAll)
 					if errors.Is(err, guard.ErrClosed) {
 						return
 					}
@@ -169,7 +174,7 @@ func TestCloseBesideQuestions(t *testing.T) {
 	}
 }
 
-// TestNobodyCloses leaves guards and questions to Go's collector. What is still used is not freed.
+// TestNobodyCloses leaves guards and questions to Go's collector, which is run at every 20th turn. What is still used is not freed.
 func TestNobodyCloses(t *testing.T) {
 	for turn := 0; turn < 200; turn++ {
 		opened, err := guard.Open([]byte(list), guard.Strict, guard.Limits{})

@@ -1,3 +1,5 @@
+// What bounds a question: the policy for hashes, and limits.
+
 package guard
 
 import (
@@ -33,7 +35,8 @@ type Limits struct {
 	Answer int
 }
 
-// Highest returns the highest limits. They are not for questions of strangers: on some questions within them an explanation takes seconds.
+// Highest returns the highest limits: certificates and words are then limited by Octets alone. They are not for questions of strangers: on some
+// questions within them an explanation takes seconds.
 func Highest() Limits {
 	return Limits{Octets: mostOctets, Certificates: math.MaxInt, Words: math.MaxInt, Nodes: mostNodes, Work: mostWork, Answer: mostAnswer}
 }
@@ -46,7 +49,7 @@ func (l Limits) answerOctets() int {
 	return l.Answer
 }
 
-// check returns an ErrMisused if a limit is below zero, or if Answer is over the highest. The library tests whether another limit is too high.
+// check returns an ErrMisused if a limit is below zero, or if Answer is over mostAnswer. The library tests whether another limit is too high.
 func (l Limits) check() error {
 	for _, limit := range []int{l.Octets, l.Certificates, l.Words, l.Nodes, l.Work, l.Answer} {
 		if limit < 0 {

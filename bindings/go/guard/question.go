@@ -1,3 +1,5 @@
+// What a service asks a Guard.
+
 package guard
 
 import "time"

@@ -1,3 +1,5 @@
+// The errors of a Guard. A refusal is a line of the library that begins with `refused`.
+
 package guard
 
 import (
@@ -45,8 +47,8 @@ func (r *Refusal) Part() string {
 	return words[1]
 }
 
-// Fault returns the name of the fault, such as `Shape`, `Bad`, `EmptyList`, `TooLarge` or `Memory`: the last word in the line with a capital letter at
-// its beginning. A number may follow it, as in `refused form Bad 3`. Empty if there is no such word.
+// Fault returns the name of the fault, such as `Shape`, `Bad`, `EmptyList`, `TooLarge` or `Memory`: the last word in the line with a capital letter
+// at its beginning. A number may follow it, as in `refused form Bad 3`. Fault is empty if there is no such word.
 func (r *Refusal) Fault() string {
 	words := strings.Fields(r.line)
 	for place := len(words) - 1; place >= 0; place-- {
@@ -58,7 +60,7 @@ func (r *Refusal) Fault() string {
 }
 
 // Is says whether the refusal is of the kind `target`: each is ErrRefused, and some are ErrTooLong, ErrTooLarge or ErrMemory too. It is for
-// errors.Is. Each refusal whose part is `question` is ErrTooLong.
+// errors.Is. Each refusal whose part is `question` is ErrTooLong, since only a limit refuses a question as a whole.
 func (r *Refusal) Is(target error) bool {
 	switch target {
 	case ErrRefused:

@@ -1,3 +1,5 @@
+// A Verified keeps, for later questions, which signatures of a sequence are valid. A mark says that the signature at a place, from 0, is valid.
+
 package guard
 
 // A Verified is a sequence whose signatures were marked as valid in a question. It has the sequence, so what was verified for one client does not
@@ -61,8 +63,8 @@ func (v Verified) Canonical() (Verified, error) {
 }
 
 // DecideVerified decides a question whose certificates are those of a Verified, if exactly its marks count. It is Ask, Mark and Decide in one call.
-// The error is ErrMisused if the question has a Sequence of its own, or if the Verified lists signatures and comes from a guard with another policy.
-// Otherwise it is that of Ask: a *Refusal, ErrMisused or ErrClosed.
+// The error is ErrMisused if the question has a Sequence, or if the Verified lists signatures and comes from a guard with another policy. Otherwise
+// it is that of Ask: a *Refusal, ErrMisused or ErrClosed.
 func (g *Guard) DecideVerified(question Question, verified Verified) (Decision, error) {
 	if len(question.Sequence) > 0 {
 		return g.decideAndLog(question, func() (Decision, error) { return Decision{}, ErrMisused })

@@ -2,7 +2,7 @@ package guard
 
 import "strings"
 
-// isCompatible says whether this module can call a library of a version: its first two numbers are the module's.
+// isCompatible says whether this module can call a library of a version, such as `0.2.1`: its first two numbers are the module's.
 func isCompatible(version string) bool {
 	return firstTwoNumbers(version) == firstTwoNumbers(Version)
 }

@@ -1,3 +1,5 @@
+// The digest of a body, in the field `Content-Digest` of RFC 9530.
+
 package httpsig
 
 import (
@@ -8,19 +10,19 @@ import (
 	"strings"
 )
 
-// A digest is the hash of a body, as `Content-Digest` gives it. The algorithm is `sha-256` or `sha-512`. The zero value, without octets, means that the
-// signature covers no digest.
+// A digest is the hash of a body, as `Content-Digest` gives it. The algorithm is `sha-256` or `sha-512`. The zero value, without octets, means that
+// the signature covers no digest.
 type digest struct {
 	algorithm string
 	octets    []byte
 }
 
-// digestOf reads the value of `Content-Digest`: one member, by SHA-256 or SHA-512. Everything else is BadDigest.
+// digestOf reads the value of `Content-Digest`: one digest, by SHA-256 or SHA-512, as in `sha-256=:BASE64:`. Everything else is BadDigest.
 func digestOf(value string) (digest, error) {
 	name, rest, _ := strings.Cut(value, "=")
 	length := map[string]int{"sha-256": sha256.Size, "sha-512": sha512.Size}[name]
 	parser := parser{rest}
-	octets, err := parser.octets()
+	octets, err := parser.readOctets()
 	// (the length of another algorithm is 0)
 	if err != nil || parser.rest != "" || length == 0 || len(octets) != length {
 		return digest{}, BadDigest
@@ -28,7 +30,7 @@ func digestOf(value string) (digest, error) {
 	return digest{name, octets}, nil
 }
 
-// matches says whether a digest is that of a body. The zero value is the digest of no body.
+// matches says whether a digest is that of a body. The zero value matches no body, not even an empty one.
 func (d digest) matches(body []byte) bool {
 	if d.algorithm == "sha-512" {
 		hash := sha512.Sum512(body)

@@ -1,3 +1,6 @@
+// Tests of signed requests (docs/SIGNATURES.md). A row is one request of testdata/rows, with the answer that every verifier must give: `valid`, or
+// the name of a refusal. signers returns a Signer of each algorithm, with a new key. NewVerifier("example.com") is the verifier of that service.
+
 package httpsig
 
 import (
@@ -30,7 +33,7 @@ import (
 )
 
 // A row is one of the table that all languages read: tests/generators/signed_requests.py says what its lines are. `gives` is the answer: `valid` or
-// the name of a refusal. With isAgain the same message was sent `again` seconds earlier, too.
+// the name of a refusal. `now` is the verifier's time, in seconds since 1970. With isAgain the same message was sent `again` seconds earlier, too.
 type row struct {
 	name, gives string
 	message     Message
@@ -93,7 +96,8 @@ func verifierAt(now *int64) *Verifier {
 	return verifier
 }
 
-// answerOf returns what a verifier answers as a row gives it: `valid` or the name of a refusal. Any other answer is a text that no row gives.
+// answerOf returns what Message or Check has returned as a row gives it: `valid` or the name of a refusal. For anything else, such as an error that
+// is no Refusal, it returns a text that no row gives.
 func answerOf(proof *Proof, err error) string {
 	var refusal Refusal
 	if err == nil && proof.Key.Text() != "" {
@@ -108,8 +112,8 @@ func answerOf(proof *Proof, err error) string {
 // TestRows compares what the verifier answers to each row with the answer in the table.
 func TestRows(t *testing.T) {
 	rows := rowsOf(t)
-	if len(rows) < 200 { // (the table was not read whole)
-		t.Fatal(len(rows))
+	if len(rows) < 200 {
+		t.Fatalf("the table was not read whole: %d rows", len(rows))
 	}
 	for _, row := range rows {
 		now := row.now
@@ -136,7 +140,8 @@ func mustDecode(t testing.TB, text string) []byte {
 	return decoded
 }
 
-// The examples of RFC 9421, appendix B.2.6 and B.2.4, with the keys of B.1.4 and B.1.3.
+// The examples of RFC 9421: appendix B.2.6, the request whose signature is signatureRFC by the private key of B.1.4, and B.2.4, the signed text
+// responseRFC, whose signature is curveSignatureRFC by the public key curveRFC of B.1.3. Keys and signatures are in base64.
 const (
 	privateRFC   = "MC4CAQAwBQYDK2VwBCIEIJ+DYvh6SEqVTm50DFtMDoQikTmiCqirVv9mWG9qfSnF"
 	signatureRFC = "wqcAqbmYJ2ji2glfAMaRy4gruYYnx2nEFN2HN6jrnDnQCK1u02Gb04v9EDgwUPiu4A0w6vuQv5lIp5WPpBKRCw=="
@@ -149,7 +154,8 @@ const (
 	curveSignatureRFC = "wNmSUAhwb5LxtOtOpNa6W5xj067m5hFrj0XQ4fvpaCLx0NKocgPquLgyahnzDnDAUy5eCdlYUEkLIj+32oiasw=="
 )
 
-// TestPublishedExamples makes and verifies the signature of B.2.6, verifies that of B.2.4, and tests a digest of RFC 9530.
+// TestPublishedExamples makes and verifies the signature of RFC 9421, appendix B.2.6, by Ed25519, verifies that of B.2.4, by ECDSA, and compares a
+// digest of RFC 9530 with its body.
 func TestPublishedExamples(t *testing.T) {
 	header := http.Header{"Date": {"Tue, 20 Apr 2021 02:07:55 GMT"}, "Content-Type": {"application/json"}, "Content-Length": {"18"}}
 	signed := base{&Message{Method: "POST", Target: "/foo?param=Value&Pet=dog", Header: header}, "https", "example.com"}
@@ -187,7 +193,10 @@ func TestPublishedExamples(t *testing.T) {
 	}
 }
 
-// signers returns a signer with a new key for each algorithm, by its name.
+// emptySequence is `(8:sequence)`, which has no certificates, in transport form.
+const emptySequence = "{KDg6c2VxdWVuY2Up}"
+
+// signers returns a signer with a new key for each algorithm, by its name. (rand.Reader does not fail.)
 func signers(t testing.TB) map[string]*Signer {
 	_, edwards, _ := ed25519.GenerateKey(rand.Reader)
 	curve, _ := ecdsa.GenerateKey(elliptic.P256(), rand.Reader)
@@ -204,8 +213,8 @@ func signers(t testing.TB) map[string]*Signer {
 	return byAlgorithm
 }
 
-// serverOfHashes returns a server that answers a request with the hash of the key that it proves, and sets `body` to its body. A request that proves
-// no key is unauthorized.
+// serverOfHashes returns a server that answers a request with the hash of the key that it proves, and sets `body` to its body, of at most 100 octets.
+// A request that proves no key gets the status 401.
 func serverOfHashes(verifier *Verifier, body *[]byte) *httptest.Server {
 	return httptest.NewServer(http.HandlerFunc(func(answer http.ResponseWriter, request *http.Request) {
 		proof, err := verifier.Request(request)
@@ -220,7 +229,8 @@ func serverOfHashes(verifier *Verifier, body *[]byte) *httptest.Server {
 	}))
 }
 
-// TestClientAndServer sends requests by a Transport, with each kind of key, to serverOfHashes, and one without a signature, which is unauthorized.
+// TestClientAndServer sends requests by a Transport, with each kind of key, to serverOfHashes: a GET without a body, and a PUT whose target has
+// escapes. One without a signature gets the status 401.
 func TestClientAndServer(t *testing.T) {
 	verifier := NewVerifier()
 	verifier.Scheme = "http"
@@ -230,7 +240,7 @@ func TestClientAndServer(t *testing.T) {
 	name := strings.TrimPrefix(server.URL, "http://")
 	verifier.Authorities = []string{name}
 	for algorithm, signer := range signers(t) {
-		signer.Sequence = "{KDg6c2VxdWVuY2Up}"
+		signer.Sequence = emptySequence
 		client := http.Client{Transport: &Transport{Signer: signer, Names: []string{name}}}
 		for _, sent := range []string{"", "some octets"} {
 			request, _ := http.NewRequest(http.MethodPut, server.URL+"/a%20b/%7ec?d=e+f", strings.NewReader(sent))
@@ -243,7 +253,8 @@ func TestClientAndServer(t *testing.T) {
 			}
 			hash, _ := io.ReadAll(response.Body)
 			response.Body.Close()
-			if wanted := (&Proof{Key: spki.AssumeKey(signer.key)}).Hash(); response.StatusCode != 200 || string(hash) != wanted || string(body) != sent {
+			wanted := (&Proof{Key: spki.AssumeKey(signer.key)}).Hash()
+			if response.StatusCode != 200 || string(hash) != wanted || string(body) != sent {
 				t.Errorf("%s: %d %s, %q", algorithm, response.StatusCode, hash, body)
 			}
 		}
@@ -254,11 +265,13 @@ func TestClientAndServer(t *testing.T) {
 	}
 }
 
-// TestFieldsToCover names more fields that Sign covers. Each is covered once. One that the request lacks is an error, also if it must be covered where
-// it is present. So is a name with a capital letter.
+// TestFieldsToCover names more fields that Sign covers. Each is covered once. A field that the request lacks is AbsentField, also `content-digest`,
+// which must be covered where it is present. A name with a capital letter is UnknownComponent.
 func TestFieldsToCover(t *testing.T) {
 	signer, verifier := signers(t)[Ed25519], NewVerifier("example.com")
-	for covered, want := range map[string]error{"x-job x-job @path": nil, "x-jobs": AbsentField, "content-digest": AbsentField, "X-Job": UnknownComponent} {
+	for covered, want := range map[string]error{
+		"x-job x-job @path": nil, "x-jobs": AbsentField, "content-digest": AbsentField, "X-Job": UnknownComponent,
+	} {
 		message := Message{Method: "GET", Authority: "example.com", Target: "/foo", Header: http.Header{"X-Job": {"7"}}}
 		if err := signer.Sign("https", message, strings.Fields(covered)...); err != want {
 			t.Errorf("%s: %v", covered, err)
@@ -273,13 +286,13 @@ func TestFieldsToCover(t *testing.T) {
 	}
 }
 
-// A replacedKey signs by a private key that is not that of its public key.
+// A replacedKey signs by a private key, and returns the public key of another one: a service that keeps keys may have replaced its key.
 type replacedKey struct {
 	crypto.Signer
 	public crypto.PublicKey
 }
 
-// Public returns the public key of another private key.
+// Public returns the public key that replacedKey was given.
 func (r replacedKey) Public() crypto.PublicKey { return r.public }
 
 // TestKeyOfAnotherCurve signs by a private key of P-384 whose public key is of P-256, which is an error and no panic.
@@ -296,7 +309,8 @@ func TestKeyOfAnotherCurve(t *testing.T) {
 	}
 }
 
-// TestMethodsAreTokens signs and verifies requests with other methods. U+212A is a K that has the ASCII letter k as its small letter.
+// TestMethodsAreTokens signs and verifies requests with methods that are tokens of HTTP or not. A Signer refuses what is none as BadTarget. To test
+// the verifier, a signed GET gets the method afterwards: it is BadMethod if it is no token. U+212A is a K whose small letter is the ASCII letter k.
 func TestMethodsAreTokens(t *testing.T) {
 	signer, verifier := signers(t)[Ed25519], NewVerifier("example.com")
 	for method, isToken := range map[string]bool{"GET": true, "get-1": true, "": false, "G T": false, "\u212a": false} {
@@ -315,9 +329,11 @@ func TestMethodsAreTokens(t *testing.T) {
 	}
 }
 
-// TestTakeOfUsedNonce takes a nonce that was used, before and after the end of its signature. After it the nonce may be forgotten, so it is Expired.
+// TestTakeOfUsedNonce takes a nonce that was used, 100 s and 900 s after its signature was made, which expires after 300 s. After 900 s the nonce may
+// be forgotten, so the proof is Expired.
 func TestTakeOfUsedNonce(t *testing.T) {
-	now := time.Now().Unix()
+	created := time.Now().Unix()
+	now := created
 	verifier, message := NewVerifier("example.com"), Message{Method: "GET", Authority: "example.com", Target: "/", Header: http.Header{}}
 	verifier.Now = func() time.Time { return time.Unix(now, 0) }
 	if err := signers(t)[Ed25519].Sign("https", message); err != nil {
@@ -333,8 +349,8 @@ func TestTakeOfUsedNonce(t *testing.T) {
 	for _, row := range []struct {
 		seconds int64
 		wanted  error
-	}{{100, NonceSeen}, {800, Expired}} {
-		now += row.seconds
+	}{{100, NonceSeen}, {900, Expired}} {
+		now = created + row.seconds
 		if err := verifier.Take(proof); err != row.wanted {
 			t.Errorf("%+v: %v", row, err)
 		}
@@ -377,8 +393,8 @@ func TestStartByClockThatWasBehind(t *testing.T) {
 	}
 }
 
-// TestServerHasWhatWasSent covers the field Host, which net/http takes out of the header, and a field of certificates without octets, which is not
-// the same as none.
+// TestServerHasWhatWasSent covers the field Host, which net/http takes out of the header, and an empty field of certificates: the Sequence of the
+// proof is then empty, where it would be `(sequence)` without the field.
 func TestServerHasWhatWasSent(t *testing.T) {
 	header := http.Header{"Host": {"example.com"}, "X-Spki-Sequence": {""}}
 	if err := signers(t)[Ed25519].Sign("https", Message{Method: "GET", Authority: "example.com", Target: "/", Header: header}, "host"); err != nil {
@@ -398,14 +414,14 @@ func TestServerHasWhatWasSent(t *testing.T) {
 }
 
 // TestOtherNamesLearnNothing sends a request to a server that is not among the names of the Transport, and one to a server that is, with the Host of
-// another service. They get no signature and no certificates.
+// another service. The server gets no signature and no certificates: it answers with the number of these fields.
 func TestOtherNamesLearnNothing(t *testing.T) {
 	server := httptest.NewServer(http.HandlerFunc(func(answer http.ResponseWriter, request *http.Request) {
 		fmt.Fprint(answer, len(request.Header["Signature"])+len(request.Header["X-Spki-Sequence"]))
 	}))
 	defer server.Close()
 	signer := signers(t)[Ed25519]
-	signer.Sequence = "{KDg6c2VxdWVuY2Up}"
+	signer.Sequence = emptySequence
 	for _, host := range []string{"", "example.com"} {
 		names := []string{"example.com"}
 		request, _ := http.NewRequest(http.MethodGet, server.URL, nil)
@@ -425,8 +441,8 @@ func TestOtherNamesLearnNothing(t *testing.T) {
 	}
 }
 
-// TestRedirectionWithoutTLS is redirected by https to another page by https, which gets a signature, and by https to a page by http, which gets none,
-// also after one more redirection. Where no request was by https, a page by http gets one.
+// TestRedirectionWithoutTLS follows redirections, each to the URL in the query `to`. A page by https gets a signature. A page by http gets one if
+// no request before it was by https, and none otherwise, also after one more redirection. A page answers with the number of its signatures.
 func TestRedirectionWithoutTLS(t *testing.T) {
 	answers := http.HandlerFunc(func(answer http.ResponseWriter, request *http.Request) {
 		to := request.URL.Query()["to"]
@@ -441,23 +457,25 @@ func TestRedirectionWithoutTLS(t *testing.T) {
 	defer open.Close()
 	names := []string{strings.TrimPrefix(safe.URL, "https://"), strings.TrimPrefix(open.URL, "http://")}
 	client := http.Client{Transport: &Transport{Signer: signers(t)[Ed25519], Names: names, Base: safe.Client().Transport}}
-	for _, row := range []struct{ path, wanted string }{
-		{safe.URL, "1"}, {safe.URL + "/?to=" + safe.URL, "1"}, {safe.URL + "/?to=" + open.URL, "0"}, {safe.URL + "/?to=" + open.URL + "/?to=" + open.URL, "0"},
+	for _, row := range []struct{ url, wanted string }{
+		{safe.URL, "1"}, {safe.URL + "/?to=" + safe.URL, "1"}, {safe.URL + "/?to=" + open.URL, "0"},
+		{safe.URL + "/?to=" + open.URL + "/?to=" + open.URL, "0"},
 		{open.URL, "1"}, {open.URL + "/?to=" + open.URL, "1"}, {open.URL + "/?to=" + safe.URL, "1"},
 	} {
-		response, err := client.Get(row.path)
+		response, err := client.Get(row.url)
 		if err != nil {
 			t.Fatal(err)
 		}
 		fields, _ := io.ReadAll(response.Body)
 		response.Body.Close()
 		if string(fields) != row.wanted {
-			t.Errorf("%s: %s", row.path, fields)
+			t.Errorf("%s: %s", row.url, fields)
 		}
 	}
 }
 
-// TestBody reads bodies of at most `most` octets. With a digest, the signed body is `abc`. `ok` says whether the body is returned.
+// TestBody reads by Proof.Body the body that was sent, with the limit `most`. A proof with a digest is of the signed body `abc`, and one without
+// covers no body. `ok` says whether the body is returned. The highest limit must not overflow.
 func TestBody(t *testing.T) {
 	digest, _ := digestOf(ContentDigest([]byte("abc")))
 	for _, row := range []struct {
@@ -479,7 +497,7 @@ func TestBody(t *testing.T) {
 // An ofUnknownLength is a body whose length net/http does not know, so that HTTP/2 sends no Content-Length.
 type ofUnknownLength struct{ io.Reader }
 
-// serverByHTTP2 returns a server that answers by HTTP/2 with the protocol, and with what a verifier says of the request and of its body.
+// serverByHTTP2 returns a server that answers by HTTP/2 with the protocol, and with the verifier's error for the request or its body, or `<nil>`.
 func serverByHTTP2(verifier *Verifier) *httptest.Server {
 	server := httptest.NewUnstartedServer(http.HandlerFunc(func(answer http.ResponseWriter, request *http.Request) {
 		proof, err := verifier.Request(request)
@@ -494,8 +512,8 @@ func serverByHTTP2(verifier *Verifier) *httptest.Server {
 	return server
 }
 
-// TestBodyByHTTP2 sends GET by HTTP/2, where a body may come without Content-Length. A Transport signs the digest of what it sends. A body that is
-// put behind a signed request without one is refused.
+// TestBodyByHTTP2 sends GET by HTTP/2, where a body may come without Content-Length. A row has the body that a Transport signs by its digest, and one
+// that is added to the signed request afterwards, or nil. One that is added to a request without a body is refused.
 func TestBodyByHTTP2(t *testing.T) {
 	verifier := NewVerifier()
 	server := serverByHTTP2(verifier)
@@ -528,8 +546,8 @@ func TestBodyByHTTP2(t *testing.T) {
 	}
 }
 
-// TestUnknownBodyIsNotSigned signs messages with a body, without one, and with one that is announced, by HasBody or Content-Length, but is not there:
-// the last are refused, since nothing can be digested.
+// TestUnknownBodyIsNotSigned signs messages with a body, without one, and with one that HasBody or Content-Length announces, but that is nil. This
+// last kind is BodyWithoutDigest, since the body is not known.
 func TestUnknownBodyIsNotSigned(t *testing.T) {
 	signer := signers(t)[Ed25519]
 	for _, row := range []struct {
@@ -550,7 +568,8 @@ func TestUnknownBodyIsNotSigned(t *testing.T) {
 }
 
 // TestNonces takes nonces at times in seconds. Each is kept for 360 s at least, in two sets of at most 2 nonces. A young set begins at 1000, 1360,
-// 1720 and 3000. The one before it is then the old set, and is dropped at 3000, since it is over 720 s old. At 900 the clock has gone back.
+// 1720 and 3000. The one before it is then the old set, and is dropped at 3000, since it is over 720 s old. At 900 the clock has gone back. At the
+// end two keys use the same nonce, and neither is refused.
 func TestNonces(t *testing.T) {
 	store := NewMemory(2)
 	for _, row := range []struct {
@@ -574,8 +593,8 @@ func TestNonces(t *testing.T) {
 	}
 }
 
-// FuzzFields shows that there is no panic whatever is in the fields, and that Check takes only what the verifier found signed. This verifier accepts
-// each text that has the form of a signed request.
+// FuzzFields shows that there is no panic whatever is in the fields, and that Check returns a proof only after Verify has accepted the signature.
+// This Verify accepts each text that has the form of a signed request, whatever its signature.
 func FuzzFields(f *testing.F) {
 	for _, row := range rowsOf(f) {
 		header := row.message.Header
@@ -601,7 +620,7 @@ func FuzzFields(f *testing.F) {
 	})
 }
 
-// FuzzSigned shows that a server takes each request that a client can sign.
+// FuzzSigned shows that a verifier accepts each request that a Signer signs. What Sign refuses is left out.
 func FuzzSigned(f *testing.F) {
 	f.Add("GET", "/foo?a=b", "accept", "text/html", "body")
 	byAlgorithm, algorithms := signers(f), []string{Ed25519, P256, P384, RSA}

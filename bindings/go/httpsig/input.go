@@ -1,3 +1,6 @@
+// Reads the fields `Signature-Input` and `Signature`. Each is a dictionary of RFC 8941 with one member, `spki=..`: the label is its name. A signature
+// covers components: fields of the request, and derived ones such as `@method`.
+
 package httpsig
 
 import (
@@ -21,7 +24,7 @@ const (
 	mostDigits     = 15
 )
 
-// The components that are no fields.
+// The derived components: those that are no fields.
 const (
 	method    = "@method"
 	authority = "@authority"
@@ -60,7 +63,7 @@ func (p *parser) trySkip(text string) bool {
 // skipLabel skips the label of the first member and its `=`. The error is Malformed if one of the two is missing, and OtherLabel for another label
 // than `spki`.
 func (p *parser) skipLabel() error {
-	name := p.name()
+	name := p.readName()
 	if name == "" || !p.trySkip("=") {
 		return Malformed
 	}
@@ -81,8 +84,8 @@ func (p *parser) expectEnd() error {
 	return Malformed
 }
 
-// name reads the name of a member or of a parameter, and returns it. It is empty if none is there.
-func (p *parser) name() string {
+// readName reads the name of a member or of a parameter, and returns it. It is empty if none is there.
+func (p *parser) readName() string {
 	end := 0
 	for end < len(p.rest) && isNameOctet(p.rest[end], end) {
 		end++
@@ -92,15 +95,15 @@ func (p *parser) name() string {
 	return name
 }
 
-// isNameOctet says whether an octet may be at a place, from 0, in a name. The first is a small letter or `*`.
+// isNameOctet says whether an octet may be at a place, from 0, in a name (RFC 8941, `key`). The first is a small letter or `*`.
 func isNameOctet(octet byte, place int) bool {
 	return 'a' <= octet && octet <= 'z' || octet == '*' ||
 		place > 0 && ('0' <= octet && octet <= '9' || octet == '_' || octet == '-' || octet == '.')
 }
 
-// string reads a string of visible ASCII and spaces in quotes, and returns it without these. Everything else is Malformed, also an escape: no string
-// of a request needs one.
-func (p *parser) string() (string, error) {
+// readString reads a string of visible ASCII and spaces in quotes, and returns it without the quotes. Everything else is Malformed, also an escape:
+// no string of a request needs one.
+func (p *parser) readString() (string, error) {
 	if !p.trySkip(`"`) {
 		return "", Malformed
 	}
@@ -118,8 +121,8 @@ func (p *parser) string() (string, error) {
 	return text, nil
 }
 
-// integer reads a number of seconds: at most 15 digits, without a sign, and without a 0 in front. Everything else is Malformed.
-func (p *parser) integer() (int64, error) {
+// readInteger reads a number of seconds: at most 15 digits, without a sign, and without a 0 in front. Everything else is Malformed.
+func (p *parser) readInteger() (int64, error) {
 	end := 0
 	for end < len(p.rest) && '0' <= p.rest[end] && p.rest[end] <= '9' {
 		end++
@@ -132,9 +135,9 @@ func (p *parser) integer() (int64, error) {
 	return strconv.ParseInt(text, 10, 64)
 }
 
-// components reads the list of components, `("@method" ..)`, and returns their names in order. The error is UnknownComponent, ComponentTwice or
+// readComponents reads the list of components, `("@method" ..)`, and returns their names in order. The error is UnknownComponent, ComponentTwice or
 // Malformed, which more than mostComponents are too.
-func (p *parser) components() ([]string, error) {
+func (p *parser) readComponents() ([]string, error) {
 	if !p.trySkip("(") {
 		return nil, Malformed
 	}
@@ -146,7 +149,7 @@ func (p *parser) components() ([]string, error) {
 		if len(names) > 0 && !p.trySkip(" ") {
 			return nil, Malformed
 		}
-		name, err := p.string()
+		name, err := p.readString()
 		if err != nil {
 			return nil, err
 		}
@@ -161,8 +164,8 @@ func (p *parser) components() ([]string, error) {
 	return names, nil
 }
 
-// isComponent says whether a signature may cover what has this name: a field, in small letters, or one of the five components that are derived. The
-// two fields of the signature itself may not be covered.
+// isComponent says whether a signature may cover a component of this name: a field, in small letters, or one of the five derived ones. The two fields
+// of the signature itself may not be covered. Whether the request has the field is not tested.
 func isComponent(name string) bool {
 	switch name {
 	case method, authority, targetURI, path, query:
@@ -173,10 +176,10 @@ func isComponent(name string) bool {
 	return isToken(name) && name == strings.ToLower(name)
 }
 
-// contains says whether a name is among others.
+// contains says whether a name is one of `names`.
 func contains(names []string, name string) bool {
-	for _, each := range names {
-		if each == name {
+	for _, other := range names {
+		if other == name {
 			return true
 		}
 	}
@@ -194,23 +197,23 @@ func inputOf(text string) (*input, error) {
 	}
 	input.text = parser.rest
 	var err error
-	if input.components, err = parser.components(); err != nil {
+	if input.components, err = parser.readComponents(); err != nil {
 		return nil, err
 	}
-	count, err := input.parameters(parser)
+	count, err := input.readParameters(parser)
 	if err != nil {
 		return nil, err
 	}
 	switch {
 	case !input.hasComponents():
 		return nil, MissingComponent
-	case count != len(input.parameterFields()): // (each that was read is known and there once)
+	case count != len(input.parameterFields()): // (readParameters refuses an unknown one and a second one, so this is too few)
 		return nil, MissingParameter
 	}
 	return input, nil
 }
 
-// hasComponents says whether all components are there that are required: the method, the authority, the key, and the target, either whole
+// hasComponents says whether the signature covers all components that are required: the method, the authority, the key, and the target, either whole
 // or as path and query.
 func (i *input) hasComponents() bool {
 	hasTarget := contains(i.components, targetURI) || contains(i.components, path) && contains(i.components, query)
@@ -224,13 +227,13 @@ func (i *input) parameterFields() map[string]any {
 	}
 }
 
-// parameters reads the parameters, `;created=1700000000 ..`, up to the end of the text, into the fields of i, and returns their number. The error is
-// a Refusal.
-func (i *input) parameters(p *parser) (int, error) {
+// readParameters reads the parameters, `;created=1700000000 ..`, up to the end of the text, into the fields of i, and returns their number. The error
+// is a Refusal.
+func (i *input) readParameters(p *parser) (int, error) {
 	// (the pointer of a parameter that was read becomes nil, so a second one is ParameterTwice)
 	fields, count := i.parameterFields(), 0
 	for p.trySkip(";") {
-		name := p.name()
+		name := p.readName()
 		if name == "" {
 			return 0, Malformed
 		}
@@ -257,14 +260,14 @@ func (i *input) parameters(p *parser) (int, error) {
 func (p *parser) readInto(field any) (err error) {
 	switch field := field.(type) {
 	case *int64:
-		*field, err = p.integer()
+		*field, err = p.readInteger()
 	case *string:
-		*field, err = p.string()
+		*field, err = p.readString()
 	}
 	return err
 }
 
-// octetsOf returns the octets of the signature in the value of `Signature`. The error is a Refusal.
+// octetsOf reads the value of `Signature`, `spki=:BASE64:`, and returns the octets of the signature. The error is a Refusal.
 func octetsOf(text string) ([]byte, error) {
 	parser := &parser{text}
 	if len(text) > mostInput {
@@ -273,15 +276,15 @@ func octetsOf(text string) ([]byte, error) {
 	if err := parser.skipLabel(); err != nil {
 		return nil, err
 	}
-	octets, err := parser.octets()
+	octets, err := parser.readOctets()
 	if err != nil {
 		return nil, err
 	}
 	return octets, parser.expectEnd()
 }
 
-// octets reads base64 between two colons, and returns the octets that it encodes. Everything else is Malformed.
-func (p *parser) octets() ([]byte, error) {
+// readOctets reads base64 between two colons, and returns the octets that it encodes. Everything else is Malformed.
+func (p *parser) readOctets() ([]byte, error) {
 	if !p.trySkip(":") {
 		return nil, Malformed
 	}

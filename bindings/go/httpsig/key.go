@@ -1,3 +1,6 @@
+// Keys and signatures of requests, in the forms of SPKI. A canonical text is an S-expression in canonical form, where a string is LENGTH:OCTETS. Its
+// transport form is base64 in braces.
+
 package httpsig
 
 import (

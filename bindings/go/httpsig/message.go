@@ -1,3 +1,6 @@
+// A Message has the parts of a request that a signature may cover. The text that is signed, the signature base of RFC 9421, has a line for each
+// component: a field of the request, or a derived one such as `@method`.
+
 package httpsig
 
 import (

@@ -1,3 +1,5 @@
+// Keeps the nonces of signed requests, so that no request counts twice.
+
 package httpsig
 
 import (

@@ -1,3 +1,5 @@
+// The client's side of signed requests (docs/SIGNATURES.md): a Signer adds the fields of a signature to a request.
+
 package httpsig
 
 import (

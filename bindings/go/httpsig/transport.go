@@ -1,3 +1,5 @@
+// Signs what an http.Client sends: a Transport is an http.RoundTripper with a Signer.
+
 package httpsig
 
 import (

@@ -1,3 +1,6 @@
+// The service's side of signed requests (docs/SIGNATURES.md): a Verifier tests a Message, and returns a Proof, which says which key has signed it, or
+// a Refusal. A nonce is the text that makes each signature count once.
+
 package httpsig
 
 import (
@@ -93,12 +96,12 @@ func (p *Proof) Body(from io.Reader, most int64) ([]byte, error) {
 }
 
 // Request returns the proof of a request to a server of net/http, and uses up its nonce. The body stays unread: Proof.Body reads it. The error is
-// that of Message.
+// a Refusal, or one of Nonces.
 func (v *Verifier) Request(request *http.Request) (*Proof, error) {
 	return v.Message(MessageOf(request))
 }
 
-// Message returns the proof of a message, and uses up its nonce. The error is a Refusal, or one of Nonces.
+// Message returns the proof of a message, and uses up its nonce. The error is a Refusal, or one of Nonces: then the message proves no key.
 func (v *Verifier) Message(message Message) (*Proof, error) {
 	proof, err := v.Check(message)
 	if err == nil {
@@ -119,6 +122,7 @@ func (v *Verifier) Take(proof *Proof) error {
 		// (the nonce may have been used, and be forgotten)
 		return Expired
 	}
+	// (a signature that Check accepts now is accepted for so many seconds at most)
 	return v.Nonces.Take([]byte(proof.Key.Text()), proof.nonce, now, mostWindow+mostAhead)
 }
 

@@ -1,3 +1,6 @@
+// SPKI keys and Go's public keys. A key is a text in canonical form, where a string is LENGTH:OCTETS. `q` is the point of a key by Ed25519 or ECDSA.
+// `n` and `e` are the numbers of one by RSA.
+
 package verify
 
 import (
@@ -98,19 +101,20 @@ func PublicOf(key []byte) (crypto.PublicKey, error) {
 func publicOf(text *reader) crypto.PublicKey {
 	switch {
 	case text.trySkip(beforeEd25519):
-		if octets, ok := text.string(ed25519.PublicKeySize); ok && isUsablePoint(octets) && text.restIs(afterKey) {
+		if octets, ok := text.readString(ed25519.PublicKeySize); ok && isUsablePoint(octets) && text.restIs(afterKey) {
 			return ed25519.PublicKey(octets)
 		}
 	case text.trySkip(beforeModulus):
-		if modulus, ok := text.string(MostBits/8 + 1); ok && text.trySkip(beforeE) { // (+ 1: an octet 00 may be in front)
-			if exponent, ok := text.string(MostExponentBits/8 + 1); ok && text.restIs(afterKey) {
+		if modulus, ok := text.readString(MostBits/8 + 1); ok && text.trySkip(beforeE) { // (+ 1: an octet 00 may be in front)
+			// (31 bits need 4 octets)
+			if exponent, ok := text.readString(MostExponentBits/8 + 1); ok && text.restIs(afterKey) {
 				return rsaKey(modulus, exponent)
 			}
 		}
 	default:
 		for _, curve := range curves {
 			if text.trySkip(curve.before) {
-				if octets, ok := text.string(mostPoint); ok && text.restIs(afterKey) {
+				if octets, ok := text.readString(mostPoint); ok && text.restIs(afterKey) {
 					return pointOf(curve, octets)
 				}
 			}
@@ -173,7 +177,7 @@ func pointOf(curve ecdsaCurve, octets []byte) crypto.PublicKey {
 // rsaKey returns the *rsa.PublicKey of a modulus and an exponent, both big-endian, or nil if it is not within the limits of isStrong.
 func rsaKey(modulus, exponent []byte) crypto.PublicKey {
 	e := new(big.Int).SetBytes(exponent)
-	if e.BitLen() > MostExponentBits { // (Int64 would cut it)
+	if e.BitLen() > MostExponentBits { // (a larger one may not fit Int64 and int)
 		return nil
 	}
 	public := &rsa.PublicKey{N: new(big.Int).SetBytes(modulus), E: int(e.Int64())}
@@ -183,8 +187,8 @@ func rsaKey(modulus, exponent []byte) crypto.PublicKey {
 	return public
 }
 
-// isStrong says whether a key of RSA has from LeastBits to MostBits bits, an odd modulus, and an odd exponent of at least 3
-// and at most MostExponentBits bits. The limits are on the numbers, so octets 00 in front make no key longer.
+// isStrong says whether a key of RSA has an odd modulus of LeastBits to MostBits bits, and an odd exponent of at least 3 and at most MostExponentBits
+// bits. The limits are on the numbers, so octets 00 in front make no key longer.
 func isStrong(public *rsa.PublicKey) bool {
 	return public.N != nil && public.N.BitLen() >= LeastBits && public.N.BitLen() <= MostBits && public.N.Bit(0) == 1 &&
 		public.E >= 3 && public.E&1 == 1 && big.NewInt(int64(public.E)).BitLen() <= MostExponentBits

@@ -19,9 +19,9 @@ func (r *reader) trySkip(text string) bool {
 	return true
 }
 
-// string reads the string, LENGTH:OCTETS, that the rest begins with. It returns its octets, and whether there is one of at most `most` octets.
+// readString reads the string, LENGTH:OCTETS, that the rest begins with. It returns its octets, and whether there is one of at most `most` octets.
 // Otherwise nothing is skipped. `most` must not exceed 9,999, since no LENGTH of more than four digits is read.
-func (r *reader) string(most int) ([]byte, bool) {
+func (r *reader) readString(most int) ([]byte, bool) {
 	colon := bytes.IndexByte(r.rest[:min(len(r.rest), len("4096:"))], ':')
 	if colon < 0 {
 		return nil, false

@@ -1,3 +1,6 @@
+// Tests of keys and signatures. A row of testdata/spki-cert.json is a certificate that `spki-cert sign` made: its key, message and value are texts in
+// canonical form. isValid says whether Signature accepts these three.
+
 package verify
 
 import (
@@ -23,18 +26,18 @@ func isValid(key, message, value []byte) bool {
 	return Signature(spki.Signature{Key: key, Message: message, Value: value})
 }
 
-// A signed is a row of testdata/spki-cert.json: a certificate as Message, with its signature. Kind names the kind of key.
+// A signed is a row of testdata/spki-cert.json: a certificate as Message, with its signature, all in canonical form. Kind names the kind of key.
 type signed struct {
 	Kind                string
 	Key, Message, Value []byte
 }
 
-// verifies says whether Signature accepts the row.
-func (s signed) verifies() bool {
+// isValid says whether Signature accepts the row.
+func (s signed) isValid() bool {
 	return isValid(s.Key, s.Message, s.Value)
 }
 
-// rowsOfSpkiCert returns certificates that `spki-cert sign` made, one by each kind of key.
+// rowsOfSpkiCert returns certificates that `spki-cert sign` made, one by each of four kinds of key.
 func rowsOfSpkiCert(t testing.TB) []signed {
 	t.Helper()
 	octets, err := os.ReadFile("testdata/spki-cert.json")
@@ -51,19 +54,20 @@ func rowsOfSpkiCert(t testing.TB) []signed {
 // TestCertificatesOfSpkiCert verifies the signature of each certificate that `spki-cert sign` made.
 func TestCertificatesOfSpkiCert(t *testing.T) {
 	for _, row := range rowsOfSpkiCert(t) {
-		if !row.verifies() {
+		if !row.isValid() {
 			t.Errorf("%s: a right signature is refused", row.Kind)
 		}
 	}
 }
 
-// TestEachChangedOctet flips one bit of one octet at a time, of each octet of a key, message or value. No signature is valid then.
+// TestEachChangedOctet flips one bit of one octet at a time, of each octet of a key, message or value, and flips it back. No signature is valid in
+// between.
 func TestEachChangedOctet(t *testing.T) {
 	for _, row := range rowsOfSpkiCert(t) {
 		for _, octets := range [][]byte{row.Key, row.Message, row.Value} {
 			for place := range octets {
 				octets[place] ^= 1 << (place % 8)
-				if row.verifies() {
+				if row.isValid() {
 					t.Errorf("%s: octet %d of %q may change", row.Kind, place, octets)
 				}
 				octets[place] ^= 1 << (place % 8)
@@ -100,7 +104,8 @@ func TestSignaturesOfOthers(t *testing.T) {
 	}
 }
 
-// TestOtherTextsOfAKey writes each key in other ways. Nothing is a signature by what results. A replacement that does not change a key is left out.
+// TestOtherTextsOfAKey writes each key in other ways: with a space, twice, with a display hint, a 0 in front of a length, another word or one more
+// element. The certificate's signature is not valid by any such text. A replacement that does not change a key is left out.
 func TestOtherTextsOfAKey(t *testing.T) {
 	for _, row := range rowsOfSpkiCert(t) {
 		for _, text := range [][]byte{
@@ -112,7 +117,7 @@ func TestOtherTextsOfAKey(t *testing.T) {
 			bytes.Replace(row.Key, []byte("(1:e"), []byte("(1:f0:)(1:e"), 1),
 		} {
 			if !bytes.Equal(text, row.Key) && isValid(text, row.Message, row.Value) {
-				t.Errorf("%s: %.60q is taken for the key", row.Kind, text)
+				t.Errorf("%s: %.60q is accepted as the key", row.Kind, text)
 			}
 		}
 	}
@@ -137,7 +142,7 @@ func rsaText(modulus, exponent []byte) []byte {
 }
 
 // TestWeakKeysOfRSA refuses each key that is beyond the limits of isStrong, or whose numbers are not as numberOctets writes them. `strong` has 2048
-// bits, the fewest, `short` one bit less, and `long` one more than the most.
+// bits, the fewest, `short` one bit less, and `long` one more than the most. `padded` is `short` with octets 00 in front. `e` is 65,537.
 func TestWeakKeysOfRSA(t *testing.T) {
 	strong := new(big.Int).SetBit(new(big.Int).SetBit(new(big.Int), LeastBits-1, 1), 0, 1)
 	short := new(big.Int).Rsh(strong, 1)
@@ -154,7 +159,7 @@ func TestWeakKeysOfRSA(t *testing.T) {
 		"4097 bits": rsaText(long, e), "nothing": rsaText(nil, e), "e is nothing": rsaText(numberOctets(strong), nil),
 		"e is 1": rsaText(numberOctets(strong), []byte{1}), "e is even": rsaText(numberOctets(strong), []byte{1, 0, 0}),
 		"e is padded": rsaText(numberOctets(strong), []byte{0, 1, 0, 1}), "e has 32 bits": rsaText(numberOctets(strong), []byte{0, 0x80, 0, 0, 1}),
-		"no octet 00 in front": rsaText(numberOctets(strong)[1:], e), "two of them": rsaText(append([]byte{0}, numberOctets(strong)...), e),
+		"no octet 00 in front": rsaText(numberOctets(strong)[1:], e), "two octets 00": rsaText(append([]byte{0}, numberOctets(strong)...), e),
 	} {
 		if _, err := PublicOf(text); !errors.Is(err, ErrKey) {
 			t.Errorf("%s: %v", name, err)
@@ -162,7 +167,7 @@ func TestWeakKeysOfRSA(t *testing.T) {
 	}
 }
 
-// TestPointsOffTheCurve refuses octets that are no point of P-256 in the form 04 and both coordinates.
+// TestPointsOffTheCurve refuses octets that are no point of P-256 in the form 04 and both coordinates, of 32 octets each. The octet 64 is the last.
 func TestPointsOffTheCurve(t *testing.T) {
 	private, err := ecdsa.GenerateKey(elliptic.P256(), rand.Reader)
 	if err != nil {
@@ -172,12 +177,12 @@ func TestPointsOffTheCurve(t *testing.T) {
 	if err != nil {
 		t.Fatal(err)
 	}
-	point := elliptic.Marshal(elliptic.P256(), private.X, private.Y)
+	point, pointOfP384 := elliptic.Marshal(elliptic.P256(), private.X, private.Y), elliptic.Marshal(elliptic.P384(), longer.X, longer.Y)
 	off := append([]byte{}, point...)
 	off[64] ^= 1
 	for name, octets := range map[string][]byte{
 		"off the curve": off, "compressed": elliptic.MarshalCompressed(elliptic.P256(), private.X, private.Y), "infinity": {0}, "nothing": nil,
-		"zeros": append([]byte{4}, make([]byte, 64)...), "long": append(point, 0), "of another curve": elliptic.Marshal(elliptic.P384(), longer.X, longer.Y),
+		"zeros": append([]byte{4}, make([]byte, 64)...), "long": append(point, 0), "of another curve": pointOfP384,
 	} {
 		if _, err := PublicOf(canonicalText(curves[0].before, octets, afterKey)); !errors.Is(err, ErrKey) {
 			t.Errorf("%s: %v", name, err)
@@ -185,7 +190,8 @@ func TestPointsOffTheCurve(t *testing.T) {
 	}
 }
 
-// TestKeysOfOtherKinds gives KeyOf what is none of the three kinds of key, or is too weak. Each is ErrKey.
+// TestKeysOfOtherKinds gives KeyOf what is none of the three kinds of key, keys that are too weak, empty ones, and a point off the curve. Each is
+// ErrKey.
 func TestKeysOfOtherKinds(t *testing.T) {
 	other, err := ecdsa.GenerateKey(elliptic.P521(), rand.Reader)
 	if err != nil {
@@ -239,8 +245,8 @@ func TestPSS(t *testing.T) {
 	}
 }
 
-// TestFewerZerosInFront looks for a signature by RSA that begins with one octet 00, as one in 256 does. Its value is valid without that octet, and
-// with more of them.
+// TestFewerZerosInFront looks for a signature by RSA that begins with one octet 00, as one in 256 does: 20,000 attempts suffice. Its value is valid
+// without that octet, and with one more octet 00. Without the next octet, which is not 00, it is not valid.
 func TestFewerZerosInFront(t *testing.T) {
 	private, err := rsa.GenerateKey(rand.Reader, LeastBits)
 	if err != nil {
@@ -257,10 +263,11 @@ func TestFewerZerosInFront(t *testing.T) {
 		if octets[0] != 0 || octets[1] == 0 {
 			continue
 		}
-		if !isValid(key, message, canonicalText(beforeRSA, octets[1:], afterValue)) || isValid(key, message, canonicalText(beforeRSA, octets[2:], afterValue)) {
+		accepts := func(number []byte) bool { return isValid(key, message, canonicalText(beforeRSA, number, afterValue)) }
+		if !accepts(octets[1:]) || accepts(octets[2:]) {
 			t.Error("an octet 00 in front may be left out, and no other")
 		}
-		if !isValid(key, message, canonicalText(beforeRSA, append([]byte{0}, octets...), afterValue)) {
+		if !accepts(append([]byte{0}, octets...)) {
 			t.Error("a number may have more octets 00 in front")
 		}
 		return
@@ -268,7 +275,7 @@ func TestFewerZerosInFront(t *testing.T) {
 	t.Error("no signature begins with an octet 00")
 }
 
-// FuzzSignature fails if three texts are valid whose key and message are not those of a row: only a holder of a private key could make them.
+// FuzzSignature fails if a signature is valid whose key and message are not those of a row: only a holder of a private key could make one.
 func FuzzSignature(f *testing.F) {
 	for _, row := range rowsOfSpkiCert(f) {
 		f.Add(row.Key, row.Message, row.Value)

@@ -24,15 +24,15 @@ import (
 	"conguraki/spki/guard"
 )
 
-// An input reads what is asked. `fault` is the error of the last read, such as io.EOF at the end of the input, or nil.
+// An input reads questions from standard input. `fault` is the error of the last read, such as io.EOF at the end of the input, or nil.
 type input struct {
 	*bufio.Reader
 	fault error
 }
 
-// next reads a string, LENGTH:OCTETS, and returns its octets. If the input ends or LENGTH is no number, it sets i.fault, and the result must not be
-// used.
-func (i *input) next() string {
+// nextString reads a string, LENGTH:OCTETS, and returns its octets. If the input ends or LENGTH is no number, it sets i.fault, and the result must
+// not be used.
+func (i *input) nextString() string {
 	digits, err := i.ReadString(':')
 	if i.fault = err; err != nil {
 		return ""
@@ -46,15 +46,15 @@ func (i *input) next() string {
 	return string(octets)
 }
 
-// list reads the number of strings, and then these strings, which it returns. It returns nil if the number cannot be read.
-func (i *input) list() []string {
-	count, err := strconv.Atoi(i.next())
+// nextList reads the number of strings, and then these strings, which it returns. It returns nil if the number cannot be read.
+func (i *input) nextList() []string {
+	count, err := strconv.Atoi(i.nextString())
 	if err != nil {
 		return nil
 	}
 	list := make([]string, count)
 	for place := range list {
-		list[place] = i.next()
+		list[place] = i.nextString()
 	}
 	return list
 }
@@ -67,34 +67,34 @@ type task struct {
 	accepted                      map[[3]string]bool
 }
 
-// task reads the next question. At the end of the input i.fault is io.EOF, and the task must not be used.
-func (i *input) task() task {
-	task := task{command: i.next(), policy: i.next(), limits: i.next(), list: i.next(), accepted: map[[3]string]bool{}}
-	task.question.Sequence = []byte(i.next())
-	task.question.Key = spki.AssumeKey([]byte(i.next()))
-	form, request := i.next(), i.list()
+// nextTask reads the next question. At the end of the input i.fault is io.EOF, and the task must not be used.
+func (i *input) nextTask() task {
+	task := task{command: i.nextString(), policy: i.nextString(), limits: i.nextString(), list: i.nextString(), accepted: map[[3]string]bool{}}
+	task.question.Sequence = []byte(i.nextString())
+	task.question.Key = spki.AssumeKey([]byte(i.nextString()))
+	form, request := i.nextString(), i.nextList()
 	if form == "words" {
 		task.question.Words = request
 	} else if len(request) > 0 {
 		task.question.Request = []byte(request[0])
 	}
-	clock, moment := i.next(), i.next()
-	if seconds, err := strconv.ParseInt(moment, 10, 64); clock == "seconds" && err == nil {
-		// (with 1 nanosecond, which a guard ignores. Without it, the seconds of the first moment of the year 1 would give the zero Time, and a
-		// question with the zero Time is one whose Moment is given)
+	unit, moment := i.nextString(), i.nextString()
+	if seconds, err := strconv.ParseInt(moment, 10, 64); unit == "seconds" && err == nil {
+		// (with 1 nanosecond, which a guard ignores. Without it, the first second of the year 1 would be the zero Time, and a question with the zero
+		// Time is one whose Moment is given)
 		task.question.Time = time.Unix(seconds, 1)
 	} else {
 		task.question.Moment = []byte(moment)
 	}
-	rows := i.list()
-	for place := 0; place+2 < len(rows); place += 3 {
-		task.accepted[[3]string{rows[place], rows[place+1], rows[place+2]}] = true
+	accepted := i.nextList() // (three strings for each signature)
+	for place := 0; place+2 < len(accepted); place += 3 {
+		task.accepted[[3]string{accepted[place], accepted[place+1], accepted[place+2]}] = true
 	}
 	return task
 }
 
 // answer opens a guard of the ACL and asks it the question. The command `explain` or `reduce` asks for an explanation or a reduction, any other one
-// for the decision. It returns the lines of the answer without the last line feed, or the error of a guard. The text of a refusal is its line.
+// for the decision. It returns the lines of the answer without the last line feed, or the error of the guard, such as a *Refusal.
 func (t task) answer() (string, error) {
 	policy, limits := guard.AllowSHA1, guard.Limits{}
 	if t.policy == "strict" {
@@ -141,7 +141,7 @@ func main() {
 	input, output := &input{Reader: bufio.NewReader(os.Stdin)}, bufio.NewWriter(os.Stdout)
 	defer output.Flush()
 	for {
-		task := input.task()
+		task := input.nextTask()
 		if errors.Is(input.fault, io.EOF) {
 			return
 		}

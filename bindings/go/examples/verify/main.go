@@ -14,8 +14,8 @@ import (
 	"conguraki/spki/verify"
 )
 
-// next reads a string, LENGTH:OCTETS, and returns its octets. There is an error at the end of the input, and where no such string is.
-func next(input *bufio.Reader) ([]byte, error) {
+// nextString reads a string, LENGTH:OCTETS, and returns its octets. There is an error at the end of the input, and where no such string is.
+func nextString(input *bufio.Reader) ([]byte, error) {
 	var length int
 	if _, err := fmt.Fscanf(input, "%d:", &length); err != nil {
 		return nil, err
@@ -25,14 +25,14 @@ func next(input *bufio.Reader) ([]byte, error) {
 	return octets, err
 }
 
-// main verifies one signature after the other. It ends with a line feed where next has an error, as at the end of the input.
+// main verifies one signature after the other. It ends with a line feed where nextString returns an error, as at the end of the input.
 func main() {
 	input, output := bufio.NewReader(os.Stdin), bufio.NewWriter(os.Stdout)
 	defer output.Flush()
 	for {
 		var texts [3][]byte
 		for place := range texts {
-			octets, err := next(input)
+			octets, err := nextString(input)
 			if err != nil {
 				fmt.Fprintln(output)
 				return
