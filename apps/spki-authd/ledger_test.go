@@ -1,5 +1,8 @@
 package main
 
+// Tests of the ledger, the file with a line for each grant: no request is granted whose line is not in it. A line in it is whole or absent, also
+// where the disk is full. `syncs` says when it calls fsync: syncNever, syncSeconds (by `beat`, each second) or syncEach (for each write).
+
 import (
 	"fmt"
 	"os"
@@ -135,7 +138,7 @@ func TestFullDiskOfMany(t *testing.T) {
 	all.Wait()
 	content, err := os.ReadFile(ledger.path)
 	lines := strings.SplitAfter(string(content), "\n")
-	// (16*50 lines would be all: then no write has failed)
+	// (if all 16*50 lines were there, no write had failed)
 	if err != nil || len(lines)-1 != len(wanted) || len(wanted) == 0 || len(wanted) == 16*50 {
 		t.Errorf("%d lines, wanted %d, %v", len(lines)-1, len(wanted), err)
 	}
@@ -258,6 +261,7 @@ func TestLastSync(t *testing.T) {
 	for _, syncs := range []string{syncNever, syncSeconds, syncEach} {
 		for _, isOver := range []bool{false, true} {
 			ledger, disk := openFailing(t, syncs, "")
+			// (whether the error must say that lines may be lost)
 			isLost := syncs == syncSeconds || syncs == syncEach && !isOver
 			mustTell := func(step string, err error) {
 				t.Helper()
