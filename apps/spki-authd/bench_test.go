@@ -23,7 +23,7 @@ func BenchmarkHandler(b *testing.B) {
 	b.ReportAllocs()
 	for turn := 0; turn < b.N; turn++ {
 		result := s.answerTo(request)
-		if buffer = result.response(buffer, time.Now(), false); result.Status != http.StatusOK {
+		if buffer = result.response(buffer, time.Now(), !isLast); result.Status != http.StatusOK {
 			b.Fatal(result.Status)
 		}
 	}

@@ -14,8 +14,8 @@ func TestMoments(t *testing.T) {
 			t.Errorf("%s, not %s", text, want)
 		}
 		granted := record{Status: 200, Answer: answerYes}
-		if want := moment.UTC().Format(time.RFC1123); !strings.Contains(string(granted.response(nil, moment, false)), "\r\nDate: "+strings.Replace(want, "UTC", "GMT", 1)+"\r\n") {
-			t.Errorf("no date %s: %s", want, granted.response(nil, moment, false))
+		if want := moment.UTC().Format(time.RFC1123); !strings.Contains(string(granted.response(nil, moment, !isLast)), "\r\nDate: "+strings.Replace(want, "UTC", "GMT", 1)+"\r\n") {
+			t.Errorf("no date %s: %s", want, granted.response(nil, moment, !isLast))
 		}
 	}
 }
