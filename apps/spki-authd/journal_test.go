@@ -15,6 +15,7 @@ type journal struct {
 	fault error
 }
 
+// errFull is the error of a full disk.
 var errFull = errors.New("no space left")
 
 // grant adds the line of a grant. If `fault` is set, it fails with that, and adds nothing.
@@ -27,7 +28,7 @@ func (j *journal) grant(line []byte) error {
 	return j.fault
 }
 
-// other adds the line of another answer.
+// other adds the line of an answer that is no grant. It never fails.
 func (j *journal) other(line []byte) {
 	j.mutex.Lock()
 	defer j.mutex.Unlock()

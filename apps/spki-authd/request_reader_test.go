@@ -1,5 +1,7 @@
 package main
 
+// Tests of how the requests of a connection are read: by net/http from the reader's buffer, or from a copy of the lines where they do not fit in it.
+
 import (
 	"fmt"
 	"io"
@@ -8,8 +10,8 @@ import (
 	"testing/iotest"
 )
 
-// readAll reads requests that come one after the other. It returns a text for each: its method, its header X-Last, its body and the error of reading that,
-// or <nil>. The last text is the error after them.
+// readAll reads requests that come one after the other. It returns a text for each: its method, its header X-Last, its body, and the error of reading
+// that or <nil>, with a space between them. The last text is the error after them.
 func readAll(from io.Reader) (read []string) {
 	reader := newRequestReader(from)
 	for {

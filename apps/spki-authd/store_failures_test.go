@@ -2,6 +2,9 @@
 
 package main
 
+// A test of a store in PostgreSQL while its servers, its network and its clock fail: tests/suite/test_store_failures.py has them fail, and ends the
+// test. A beat is a mark with the time that a store gets again and again, by which the daemon knows how old the store's state is.
+
 import (
 	"database/sql/driver"
 	"encoding/hex"
@@ -87,6 +90,7 @@ func (l *timeline) transact(texts []string, values ...driver.Value) (rows [][]dr
 		if place == len(texts) {
 			parameters = values
 		}
+		// (a link has room for a few statements, by their numbers: this uses only the first)
 		if err = taken.forget(0); err == nil {
 			use := func(row []driver.Value) error { rows = append(rows, copyOf(row)); return nil }
 			err = taken.ask(0, strings.ReplaceAll(text, "@", l.store.options.Schema), use, parameters)
@@ -113,7 +117,7 @@ func copyOf(row []driver.Value) []driver.Value {
 	return copied
 }
 
-// The statement that adds a beat, by the clock of a server, which is wrong by what the table `error` says.
+// The statement that adds a beat, by the clock of a server. The table `error` says by how much that is wrong, as the test sets it.
 const beats = "UPDATE @.heartbeat SET number = number + 1, moment = clock_timestamp() + (SELECT by FROM @.error)"
 
 // change adds an entry or removes one, with a beat, and notes the version. Below 40 entries it adds one, and otherwise it does either by chance. If that

@@ -2,6 +2,8 @@
 
 package main
 
+// Measurements of decisions by a store in PostgreSQL, which bench/store.py fills, has run, and reads: each figure is a line on standard output.
+
 import (
 	"errors"
 	"fmt"
@@ -26,7 +28,7 @@ const (
 	envWhat = "SPKI_STORE_WHAT"
 )
 
-// figures has a store, and for how many keys it has entries.
+// figures has what is measured: a store, and for how many keys it has entries, numbered from 0.
 type figures struct {
 	*testing.T
 	store *store
@@ -52,7 +54,8 @@ func TestStoreFigures(t *testing.T) {
 // newFigures opens the store that the environment names, which has entries for so many keys, and polls it once. It is stale only after decades, so it need
 // not be polled again.
 func newFigures(t *testing.T, keys int) *figures {
-	options := &storeOf{Host: os.Getenv(envHost), Database: "postgres", User: "postgres", Schema: os.Getenv(envSchema), StaleSeconds: 1 << 30}
+	const decades = 1 << 30
+	options := &storeOf{Host: os.Getenv(envHost), Database: "postgres", User: "postgres", Schema: os.Getenv(envSchema), StaleSeconds: decades}
 	if err := options.check(); err != nil {
 		t.Fatal(err)
 	}
@@ -156,6 +159,7 @@ func min(one, other int) int {
 // other keys are seldom kept. It prints the questions a second, the part that was answered from kept lists, and the figure `load`, for
 // bench/store.py.
 func (f *figures) measureLoad() {
+	// (how many questions each goroutine asks, and how many keys are asked for often)
 	const each, hot = 20_000, 200
 	f.store.kept.most = 1 << 20
 	workers := 2 * runtime.NumCPU()

@@ -2,6 +2,9 @@
 
 package main
 
+// Tests of a store in PostgreSQL. tests/suite/test_store.py makes an empty store, and names it in the environment. Random questions are asked while a
+// writer changes the entries, and each answer is compared with that of a guard of the whole list. The number of a change is its place in `history`.
+
 import (
 	"database/sql/driver"
 	"encoding/hex"
@@ -81,8 +84,8 @@ func newRig(t *testing.T, patience time.Duration) *rig {
 	return opened
 }
 
-// forget closes the statement with a number, if it is prepared, so that the next ask prepares the text that it is given. Else ask would run again the
-// statement that it has prepared under this number.
+// forget closes the statement with a number, if it is prepared, so that the next `ask` prepares the text that it is given. Else `ask` would run the
+// statement again that it has prepared under this number.
 func (l *link) forget(number int) error {
 	prepared := l.statements[number]
 	if prepared == nil {
@@ -99,10 +102,12 @@ func (r *rig) runStatement(text string, values ...driver.Value) (first int64) {
 		r.t.Error(err)
 		return 0
 	}
+	// (a link has room for a few statements, by their numbers: this uses only the first)
 	if err = link.forget(0); err == nil {
 		use := func(row []driver.Value) error { first, _ = row[0].(int64); return nil }
 		err = link.ask(0, fmt.Sprintf(text, r.store.options.Schema), use, values)
 	}
+	// (the link is given back)
 	r.writer.slots <- link
 	if err != nil {
 		r.t.Error(err)
@@ -117,6 +122,7 @@ func (r *rig) somebody(random *rand.Rand) person {
 
 // principalOf returns a person's key or, half of the time, a hash of it.
 func principalOf(who person, random *rand.Rand) string {
+	// (in this order: by SHA-1, SHA-256 and SHA-512)
 	digests := digestsOf([]byte(who.key))
 	switch random.Intn(6) {
 	case 0:
@@ -175,7 +181,8 @@ func numbersOf(entries map[int]string) []int {
 	return numbers
 }
 
-// question returns a question by chance with up to three certificates, some of which are wrong.
+// question returns a question by chance with up to three certificates, each from one person to the next. About one of 20 certificates is signed by
+// anybody, and about one of 20 sequences has a value that is no certificate, so that it is refused.
 func (r *rig) question(random *rand.Rand) guard.Question {
 	chain := []person{r.somebody(random)}
 	text := "(8:sequence"
@@ -313,7 +320,7 @@ func (r *rig) isRightSoon(at int64, question guard.Question, answer string) bool
 	return false
 }
 
-// after returns the entries after the change with a number, or nil if that is not noted yet.
+// after returns the entries after the change with a number, by their numbers, or nil if that change is not noted yet.
 func (r *rig) after(change int64) map[int]string {
 	r.mutex.Lock()
 	defer r.mutex.Unlock()

@@ -2,6 +2,9 @@
 
 package main
 
+// A measurement of daemons that decide by a store in PostgreSQL and are asked over HTTP. bench/store.py starts them and this test, and reads its
+// line. `hot` people ask again and again, so that the daemons keep their rows, and `cold` people once.
+
 import (
 	"bufio"
 	"database/sql/driver"
@@ -75,13 +78,14 @@ func TestStoreServed(t *testing.T) {
 	for _, each := range l.times {
 		times = append(times, each...)
 	}
+	const ofDaemons, ofServer, ofClients, ofMachine = 0, 1, 2, 3
 	microsecondsEach := func(which int) float64 {
 		return float64((after[which] - before[which]).Microseconds()) / float64(len(times))
 	}
 	sort.Slice(times, func(one, other int) bool { return times[one] < times[other] })
 	fmt.Printf("figure served second %.0f p50 %d p99 %d daemon %.1f server %.1f clients %.1f octets %d busy %.2f\n", float64(len(times))/took.Seconds(),
-		times[len(times)/2].Microseconds(), times[len(times)*99/100].Microseconds(), microsecondsEach(0), microsecondsEach(1), microsecondsEach(2), octets/len(times),
-		(after[3]-before[3]).Seconds()/took.Seconds())
+		times[len(times)/2].Microseconds(), times[len(times)*99/100].Microseconds(), microsecondsEach(ofDaemons), microsecondsEach(ofServer), microsecondsEach(ofClients),
+		octets/len(times), (after[ofMachine]-before[ofMachine]).Seconds()/took.Seconds())
 }
 
 // populate makes people, puts their entries into the store, and makes the request of each.
@@ -192,6 +196,7 @@ func runAt(writer *pool, text string, values ...driver.Value) error {
 		return err
 	}
 	defer link.Close()
+	// (the first of the statements that a connection has room for)
 	return link.ask(0, text, func([]driver.Value) error { return nil }, values)
 }
 

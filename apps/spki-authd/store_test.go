@@ -1,5 +1,9 @@
 package main
 
+// Tests of a store: an access list whose entries are rows of a database, which a `table` in memory stands for here. The daemon polls the changes of
+// the store, and keeps rows that it has read. A beat is a mark that the store gets each second: without one for ten seconds it is stale, and the
+// answer is 503. Alice may read below /web/ by entry 7, and Bob below /web/docs/ by her certificate. 200 grants, 401 and 403 deny.
+
 import (
 	"encoding/hex"
 	"errors"
@@ -38,7 +42,7 @@ type change struct {
 	token     int64
 }
 
-// put puts an entry for a key into the table, or takes it out if `text` is empty.
+// put puts an entry with a number, for a key, into the table, or takes it out if `text` is empty. It notes the change, which the next poll returns.
 func (t *table) put(number int, key, text string) {
 	// (the second digest is that by SHA-256)
 	keyDigest := string(digestsOf([]byte(key))[1])
@@ -49,9 +53,10 @@ func (t *table) put(number int, key, text string) {
 	t.note(change{keyDigest: keyDigest})
 }
 
-// note adds a change with the next number, at a later time.
+// note adds a change with the next number, at a later time, the token.
 func (t *table) note(next change) {
 	t.state.changes++
+	// (any later time)
 	t.state.token += 7
 	next.token = t.state.token
 	t.news = append(t.news, next)
@@ -154,7 +159,7 @@ func (s *storedSite) entryOf(who person) string {
 	return "(5:entry" + who.key + propagates + "(3:tag" + prefix("read", "/web/") + "))"
 }
 
-// beat adds a beat to the table at the time of the store's clock, and has the store poll.
+// beat adds a beat to the table at the time of the store's clock, and has the store poll. The store keeps the error of the poll, so it is not returned.
 func (s *storedSite) beat() {
 	s.table.state.beat++
 	s.table.state.beaten = s.time.UnixMicro()
@@ -281,7 +286,7 @@ func TestStoreThatGoesBack(t *testing.T) {
 	s.table.meanwhile = func() { s.table.put(7, s.alice.key, ""); s.beat() }
 	s.expect(t, "rows of the moment before", 200)
 	s.expect(t, "rows after the removal", 401)
-	// (a server that lost the removal, and then had another change)
+	// (a server that lost the third change, the removal, and then had another third one, at another time)
 	s.table.news, s.table.state.changes = s.table.news[:2], 2
 	s.table.put(7, s.alice.key, s.entryOf(s.alice))
 	s.table.news[2].token, s.table.state.token = 1000, 1000
@@ -297,6 +302,7 @@ func TestStoredChains(t *testing.T) {
 	limits := s.config.Chains
 	s.chains = newStoredChains(limits, s.table)
 	bobs, _ := s.sequencesShown()
+	// (Bob asks without showing certificates. `kept` is `used` if those that he has left grant the request)
 	asks := func(name string, wanted int, kept string) {
 		t.Helper()
 		if status := s.statusFor(s.bob, "/web/docs/b", ""); status != wanted || s.lastLine(t).Kept != kept {
@@ -317,6 +323,7 @@ func TestStoredChains(t *testing.T) {
 	if s.table.reads != reads {
 		t.Errorf("read %d times", s.table.reads-reads)
 	}
+	// (the second digest of a key is that by SHA-256)
 	s.store.kept.drop(digestsOf([]byte(s.alice.key))[1])
 	s.table.fault = errors.New("the server is gone")
 	asks("without the entries for the issuer", 503, "")
@@ -409,8 +416,8 @@ func TestStoreConfigs(t *testing.T) {
 	}
 }
 
-// TestKeptRows adds five lists where there is room for three, and asks for the first each time: it stays, and so do the last two. Then it removes one by its
-// digest, and then all.
+// TestKeptRows adds five lists without entries where there is room for three, and asks for the first each time: it stays, and so do the last two.
+// Then it removes one by its digest, and then all.
 func TestKeptRows(t *testing.T) {
 	s := newStored(t)
 	rows := newKeptRows(3 * octetsRow)
@@ -421,7 +428,8 @@ func TestKeptRows(t *testing.T) {
 			t.Fatal(err)
 		}
 		names[number][0] = byte(number)
-		rows.add(names[number], [][]byte{{byte(number)}}, &list{guard: opened}, 0)
+		const octetsOfEntries = 0
+		rows.add(names[number], [][]byte{{byte(number)}}, &list{guard: opened}, octetsOfEntries)
 		rows.get(names[0])
 	}
 	for number, wanted := range []bool{true, false, false, true, true} {
@@ -439,7 +447,7 @@ func TestKeptRows(t *testing.T) {
 	}
 }
 
-// hexOf returns the octets that hexadecimal digits mean, and ends the test if they cannot be decoded.
+// hexOf returns the octets that hexadecimal digits stand for, and ends the test if they cannot be decoded.
 func hexOf(t *testing.T, digits string) []byte {
 	t.Helper()
 	octets, err := hex.DecodeString(digits)
