@@ -1,5 +1,8 @@
 package main
 
+// What the daemon tests of a sequence that a client leaves: its signatures, and whether the subject of its last certificate is the client's key. The
+// library answers both, by questions to a list without entries or with one.
+
 import (
 	"bytes"
 	"fmt"

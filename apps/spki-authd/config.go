@@ -1,5 +1,7 @@
 package main
 
+// The configuration, an object of JSON in a file. A field that is left out has its usual value.
+
 import (
 	"bytes"
 	"encoding/json"

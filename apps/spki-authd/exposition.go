@@ -1,5 +1,7 @@
 package main
 
+// The metrics of the daemon, in Prometheus' text format.
+
 import (
 	"fmt"
 	"strings"
@@ -63,7 +65,7 @@ func (d *daemon) exposition() string {
 	text.writeValue("state_info", fmt.Sprintf("{ended=%q,list=%q}", present.ended.digest, present.digestNow()), 1)
 	text.writeSingle("reloads_total", "counter", "Reloads, with that of the start.", d.keeper.reloads.Load())
 	text.writeSingle("reloads_refused_total", "counter", "Reloads that were refused.", d.keeper.refused.Load())
-	text.writeSingle("last_reload_refused", "gauge", "1 if the last reload was refused.", number(last.fault != nil))
+	text.writeSingle("last_reload_refused", "gauge", "1 if the last reload was refused.", oneIf(last.fault != nil))
 	text.writeSingle("read_timestamp_seconds", "gauge", "When the lists in force were read.", present.read.Unix())
 	text.writeSingle("start_timestamp_seconds", "gauge", "When the daemon was started.", d.begun.Unix())
 	text.writeSingle("clock_seconds", "gauge", "The time of the daemon's clock.", d.now().Unix())
@@ -75,9 +77,9 @@ func (d *daemon) exposition() string {
 	return text.String()
 }
 
-// number returns 1 for true, and 0 for false.
-func number(isSo bool) int {
-	if isSo {
+// oneIf returns 1 for true, and 0 for false.
+func oneIf(isTrue bool) int {
+	if isTrue {
 		return 1
 	}
 	return 0

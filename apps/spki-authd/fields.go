@@ -1,5 +1,7 @@
 package main
 
+// A test of the configuration's text: no object in it may have a field twice.
+
 import (
 	"bytes"
 	"encoding/json"

@@ -1,5 +1,7 @@
 package main
 
+// How -health tests whether the daemon answers, and the state that the daemon then reports.
+
 import (
 	"bytes"
 	"context"

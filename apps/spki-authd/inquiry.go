@@ -1,5 +1,7 @@
 package main
 
+// What the web server asks: an inquiry, which is read from the headers of the web server's own request. A header that is read may be there only once.
+
 import (
 	"crypto/subtle"
 	"errors"

@@ -1,5 +1,8 @@
 package main
 
+// Chains: sequences of certificates that clients have left with the daemon, for their later requests. A folder has one file for each (folderChains),
+// or a store in PostgreSQL has them (storedChains).
+
 import (
 	"encoding/base64"
 	"errors"

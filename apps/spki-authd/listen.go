@@ -1,5 +1,7 @@
 package main
 
+// The entrance: the Unix socket, or the port with TLS, at which the web server asks.
+
 import (
 	"errors"
 	"fmt"

@@ -1,5 +1,7 @@
 package main
 
+// The line of the log for a record, as JSON.
+
 import (
 	"encoding/json"
 	"strconv"

@@ -1,5 +1,7 @@
 package main
 
+// The command -probe, which asks a finished site for what it must deny. probe_asker.go has the requests, and how they are sent.
+
 import (
 	"errors"
 	"fmt"

@@ -1,5 +1,8 @@
 package main
 
+// The requests of -probe, and how they are sent. An asker sends them by one protocol, with a TLS certificate or without one. A try is one of the
+// requests.
+
 import (
 	"crypto/ecdsa"
 	"crypto/elliptic"

@@ -1,5 +1,7 @@
 package main
 
+// A record: the answer to a request, its HTTP response, and what its line in the log has.
+
 import (
 	"net/http"
 	"strconv"
@@ -122,6 +124,7 @@ func (r *record) response(room []byte, now time.Time, isLast bool) []byte {
 	}
 	if r.Entry > 0 {
 		header("X-Spki-Entry", "")
+		// (the number is appended without a string of its own, which would take memory)
 		text = strconv.AppendInt(text, int64(r.Entry), 10)
 	}
 	if r.Answer == answerRefused {

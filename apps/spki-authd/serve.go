@@ -1,5 +1,7 @@
 package main
 
+// The running daemon: its main loop, which does what signals and orders ask for, and its end.
+
 import (
 	"context"
 	"fmt"
@@ -61,6 +63,7 @@ func (d *daemon) listenAndServe() error {
 	defer d.flush()
 	listener, err := d.config.listen()
 	if err != nil {
+		// (nothing was granted, so no line can be lost)
 		_ = d.closeLedger()
 		return err
 	}
@@ -111,8 +114,10 @@ func (d *daemon) serve(listener net.Listener) error {
 		case <-seconds.C:
 			d.watchClock()
 		case <-d.signals.reload:
+			// (as -reload without -fewer. An event has the error)
 			_ = d.reload(false)
 		case <-d.signals.reopen:
+			// (an event has the error)
 			_ = d.reopen()
 		case order := <-d.orders:
 			order.result <- order.call(d)
@@ -134,6 +139,7 @@ func (d *daemon) watchClock() {
 // end closes the listener, waits up to timeToEnd until the open requests are answered, and closes the log of grants. An event says how that went. The
 // error says that requests were still open, or that the last grants may not be on the disk.
 func (d *daemon) end(listener net.Listener, connections *connectionServer) error {
+	// (without its service manager the daemon ends all the same)
 	_ = notify("STOPPING=1")
 	limit, cancel := context.WithTimeout(context.Background(), timeToEnd)
 	defer cancel()
@@ -151,6 +157,7 @@ func (d *daemon) end(listener net.Listener, connections *connectionServer) error
 // reload reads the access lists, the ended certificates and the certificate for TLS again: accessKeeper.reload says when it fails. An event and a message
 // to the service manager say how it went.
 func (d *daemon) reload(allowFewerEnded bool) error {
+	// (without its service manager the daemon reloads all the same)
 	_ = notify("RELOADING=1")
 	err := d.keeper.reload(d.config, allowFewerEnded, d.now())
 	d.tell("reloaded", err)

@@ -1,5 +1,7 @@
 package main
 
+// The headers that are read, and those of each web server if the configuration names no others.
+
 import (
 	"fmt"
 	"net/textproto"

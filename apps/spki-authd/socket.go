@@ -1,5 +1,7 @@
 package main
 
+// Unix sockets: that of the web server and that of the operator.
+
 import (
 	"errors"
 	"fmt"

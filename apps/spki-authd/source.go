@@ -1,5 +1,7 @@
 package main
 
+// Where an access list comes from: a file, or a store, which is a database with a row for each entry.
+
 import (
 	"bytes"
 	"encoding/json"

@@ -1,5 +1,9 @@
 package main
 
+// A store: an access list in a database, with a row for each entry. The daemon reads the entries that a question needs, keeps them, and polls the
+// changes. A beat is a mark with the time that the store gets each second. The state is stale if its last beat is too old: then nothing is decided by
+// it.
+
 import (
 	"bytes"
 	"crypto/sha1"

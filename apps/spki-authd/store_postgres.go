@@ -2,6 +2,9 @@
 
 package main
 
+// The statements by which a store in PostgreSQL is read. A row of their results begins with the state of the store: its version, its last change and
+// its last beat.
+
 import (
 	"context"
 	"crypto/sha1"
@@ -295,6 +298,7 @@ func (p *pool) whole() (result pollResult, err error) {
 // chains returns the sequences that are kept for the key with a digest, by their ends.
 func (p *pool) chains(key digest) (chains []keptChain, err error) {
 	err = p.ask(askChains, func(row []driver.Value) error {
+		// (a value that is no number is read as 0, which is 1970: such a sequence has ended)
 		until, _ := row[1].(int64)
 		chains = append(chains, keptChain{text: string(octetsIn(row[0])), until: time.UnixMicro(until)})
 		return nil

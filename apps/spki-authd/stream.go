@@ -1,5 +1,7 @@
 package main
 
+// Standard output and standard error, to which lines and events are written.
+
 import (
 	"encoding/json"
 	"io"

@@ -1,5 +1,8 @@
 package main
 
+// A writer: it writes lines to a sink, such as a file, by one goroutine, so that a disk that hangs blocks no answer. Lines that come while it writes
+// wait in batches.
+
 import (
 	"errors"
 	"runtime"
