@@ -88,6 +88,7 @@ func TestHealth(t *testing.T) {
 	if line := s.lastLine(t); line.ID != healthID || line.Answer != answerRefused || s.lines() != 1 {
 		t.Errorf("%+v", line)
 	}
+	// (the writer's goroutine, which uses the file, changes it between two writes)
 	s.daemon.granted.do(func() { s.daemon.ledger.file = &failingFile{File: s.daemon.ledger.file.(*os.File), room: 0} })
 	if status := s.get(t, "/web/x"); status != 503 {
 		t.Errorf("a full disk: %d", status)

@@ -234,7 +234,7 @@ func TestEndedIsNotKept(t *testing.T) {
 }
 
 // TestStrangersLeave leaves certificates of keys that a stranger has made. Once there is no room for another key, or for more octets, they are answered by
-// `full`, and no signature is verified. None of them grants anything, and what a request shows itself counts as before.
+// `full`, and no signature is verified. None of them grants anything, and a request that shows certificates is decided by these as before.
 func TestStrangersLeave(t *testing.T) {
 	s := newSiteWithChains(t)
 	s.config.Chains.Keys = 2
@@ -287,6 +287,7 @@ func mustAdd(t *testing.T, kept *folderChains, key, text string, now time.Time, 
 // of octets is right, and no limit is exceeded.
 func heldBy(t *testing.T, kept *folderChains) string {
 	t.Helper()
+	// (the path and the text of each file, by what is in memory, and by the folder)
 	var inMemory, inFiles []string
 	octets := 0
 	for key, all := range kept.byKey {
@@ -301,6 +302,7 @@ func heldBy(t *testing.T, kept *folderChains) string {
 	paths, _ := filepath.Glob(filepath.Join(kept.Folder, "*", "*"))
 	var texts []string
 	for _, path := range paths {
+		// (of a file that cannot be read the text is empty, and differs from that in memory)
 		text, _ := os.ReadFile(path)
 		inFiles, texts = append(inFiles, path+" "+string(text)), append(texts, string(text))
 	}

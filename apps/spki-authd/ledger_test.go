@@ -263,12 +263,14 @@ func TestLastSync(t *testing.T) {
 			ledger, disk := openFailing(t, syncs, "")
 			// (whether the error must say that lines may be lost)
 			isLost := syncs == syncSeconds || syncs == syncEach && !isOver
+			// (reports an error unless `err`, that of a step, says so)
 			mustTell := func(step string, err error) {
 				t.Helper()
 				if (err != nil) != isLost || err != nil && !strings.Contains(err.Error(), "may not be on the disk") {
 					t.Errorf("%s, %v: %s: %v", syncs, isOver, step, err)
 				}
 			}
+			// (writes a line. Then fsync fails during a `beat`, and unless isOver also after it)
 			writeUnsynced := func(line string) {
 				if err := ledger.write([]byte(line)); err != nil {
 					t.Error(err)

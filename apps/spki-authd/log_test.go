@@ -53,8 +53,8 @@ func TestLogThatCannotBeWritten(t *testing.T) {
 	}
 }
 
-// TestLogThatHangs asks while a write to the log of grants does not return: what would be granted is answered by 503, and a denial as usual. The writer
-// waits for a twentieth of the time of a request, so that the test is short.
+// TestLogThatHangs asks while a write to the log of grants does not return: what would be granted is answered by 503, and a denial still by 401. The
+// writer waits for a twentieth of the time of a request, so that the test is short.
 func TestLogThatHangs(t *testing.T) {
 	s := serveHere(t, "")
 	released := make(chan struct{})

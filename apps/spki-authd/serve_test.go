@@ -78,6 +78,7 @@ func TestEndsWithoutDisk(t *testing.T) {
 	if err != nil {
 		t.Fatal(err)
 	}
+	// (from now on fsync fails. The writer's goroutine, which uses the file, changes it between two writes)
 	daemon.granted.do(func() {
 		daemon.ledger.file = &failingFile{File: daemon.ledger.file.(*os.File), room: -1, syncFails: true}
 	})

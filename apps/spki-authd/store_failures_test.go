@@ -64,6 +64,7 @@ func newTimeline(t *testing.T) *timeline {
 	line := &timeline{rig: newRig(t, failingPatience), end: make(chan struct{}), past: []*version{{map[int]string{}, time.Now(), time.Time{}}}}
 	line.store.options.StaleSeconds = failingStale
 	for _, host := range strings.Split(os.Getenv(envWriters), ",") {
+		// (each is asked at its Unix socket, by one connection)
 		options := *line.store.options
 		options.Host, options.Root, options.Connections = host, "", 1
 		opened, err := openReader(&options, failingPatience)

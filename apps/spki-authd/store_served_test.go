@@ -115,6 +115,7 @@ func (l *load) populate() {
 // warm has each daemon read the rows of those who ask often.
 func (l *load) warm() {
 	for _, socket := range l.sockets {
+		// (it draws no numbers, so any seed will do, and it notes no times)
 		visitor := l.newVisitor(socket, 0, nil)
 		for number := 0; number < hotPeople; number++ {
 			visitor.askFor(number)
