@@ -8,7 +8,7 @@ import (
 // A clock notes whether the time of day goes back: then certificates whose window was over count again.
 type clock struct {
 	// The moment that was noted last, in nanoseconds since 1970, and how often note has returned true.
-	last, times atomic.Int64
+	last, timesBack atomic.Int64
 }
 
 // By how much a moment may be before one that another goroutine noted earlier: each reads the clock, and may be interrupted before it notes.
@@ -20,6 +20,6 @@ func (c *clock) note(now time.Time) bool {
 	if now.UnixNano() >= last-int64(backAtLeast) {
 		return false
 	}
-	c.times.Add(1)
+	c.timesBack.Add(1)
 	return true
 }

@@ -216,8 +216,8 @@ func (l limits) ofQuestion() guard.Limits {
 	return guard.Limits{Octets: l.Octets, Certificates: l.Certificates, Words: l.Words}
 }
 
-// time returns the time that one request may take: `seconds`.
-func (l limits) time() time.Duration {
+// timeOfRequest returns the time that one request may take: `seconds`.
+func (l limits) timeOfRequest() time.Duration {
 	return time.Duration(l.Seconds) * time.Second
 }
 

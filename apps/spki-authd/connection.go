@@ -187,12 +187,12 @@ func (s *connectionServer) patience(stage stage) time.Duration {
 	case stage == isIdle:
 		return timeIdle
 	}
-	return s.decider.config.Limits.time()
+	return s.decider.config.Limits.timeOfRequest()
 }
 
 // watch ends connections whose time is over, looksInTime times in the time of a request, until isEmpty is closed.
 func (s *connectionServer) watch() {
-	looks := time.NewTicker(s.decider.config.Limits.time() / looksInTime)
+	looks := time.NewTicker(s.decider.config.Limits.timeOfRequest() / looksInTime)
 	defer looks.Stop()
 	for {
 		select {

@@ -121,7 +121,7 @@ func (d *decider) judge(result *record, key guard.ProvenKey, path, sequence stri
 	case err != nil:
 		*result = result.withReason(answerOf(err), err)
 	case decision.Granted():
-		result.Answer, result.Entry = answerYes, result.number(decision.Entry())
+		result.Answer, result.Entry = answerYes, result.entryNumber(decision.Entry())
 	case sequence == "":
 		result.Answer = answerUnknown
 	}
@@ -249,7 +249,7 @@ func (d *decider) explain(result *record, opened *guard.Asked) string {
 		return err.Error()
 	}
 	explanation, err := opened.Explain()
-	return reasonsOf(explanation, err, result.number)
+	return reasonsOf(explanation, err, result.entryNumber)
 }
 
 // countValid verifies signatures up to the first that is not valid, and returns how many precede that one, or the number of all. `certificates` are

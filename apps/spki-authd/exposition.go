@@ -69,7 +69,7 @@ func (d *daemon) exposition() string {
 	text.writeSingle("read_timestamp_seconds", "gauge", "When the lists in force were read.", present.read.Unix())
 	text.writeSingle("start_timestamp_seconds", "gauge", "When the daemon was started.", d.begun.Unix())
 	text.writeSingle("clock_seconds", "gauge", "The time of the daemon's clock.", d.now().Unix())
-	text.writeSingle("clock_back_total", "counter", "How often the time of day went back.", d.clock.times.Load())
+	text.writeSingle("clock_back_total", "counter", "How often the time of day went back.", d.clock.timesBack.Load())
 	text.writeStores(present)
 	text.writeSingle("log_lines_total", "counter", "Lines in the log of grants.", d.granted.written.Load())
 	text.writeSingle("log_failures_total", "counter", "Grants that became 503, since their lines could not be written in time.", d.granted.failed.Load())

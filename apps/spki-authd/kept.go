@@ -144,7 +144,7 @@ func openChains(c *config, now time.Time, mayRemove bool) (chainKeeper, error) {
 	case c.Chains.Postgres == nil:
 		return openFolderChains(c.Chains, now, mayRemove)
 	}
-	reader, err := openReader(c.Chains.Postgres, c.Limits.time()/partOfGrant)
+	reader, err := openReader(c.Chains.Postgres, c.Limits.timeOfRequest()/partOfGrant)
 	if err != nil {
 		return nil, err
 	}

@@ -59,7 +59,7 @@ func TestLogThatHangs(t *testing.T) {
 	s := serveHere(t, "")
 	released := make(chan struct{})
 	defer close(released)
-	s.logGrant = newWriter(&hangingSink{released: released}, s.config.Limits.time()/20, nil).write
+	s.logGrant = newWriter(&hangingSink{released: released}, s.config.Limits.timeOfRequest()/20, nil).write
 	for turn := 0; turn < 2; turn++ {
 		if status := s.get(t, "/web/x"); status != 503 {
 			t.Errorf("%d", status)

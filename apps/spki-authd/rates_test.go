@@ -137,8 +137,8 @@ func TestClock(t *testing.T) {
 			t.Errorf("%+v", row)
 		}
 	}
-	if watched.times.Load() != 1 {
-		t.Errorf("%d times", watched.times.Load())
+	if watched.timesBack.Load() != 1 {
+		t.Errorf("%d times", watched.timesBack.Load())
 	}
 }
 
@@ -154,7 +154,7 @@ func TestSlowRequests(t *testing.T) {
 		return nil
 	}
 	s.askAs(s.alice, "GET", "/web/x", "")
-	if backs := s.clock.times.Load(); backs != 0 {
+	if backs := s.clock.timesBack.Load(); backs != 0 {
 		t.Errorf("the clock went back %d times", backs)
 	}
 }

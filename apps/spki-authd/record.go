@@ -56,9 +56,9 @@ type record struct {
 	numbers []int
 }
 
-// number returns the number of an entry as the log has it, by its place in the guard, from 1. Where entries are in a store, that is the number in the
+// entryNumber returns the number of an entry as the log has it, by its place in the guard, from 1. Where entries are in a store, that is the number in the
 // store, and otherwise the place itself. 0, which is no entry, stays 0.
-func (r *record) number(place int) int {
+func (r *record) entryNumber(place int) int {
 	if place > 0 && place <= len(r.numbers) {
 		return r.numbers[place-1]
 	}

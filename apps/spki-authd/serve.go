@@ -48,7 +48,7 @@ func (d *daemon) open(out, messages io.Writer) error {
 	if err != nil {
 		return err
 	}
-	patience := d.config.Limits.time()
+	patience := d.config.Limits.timeOfRequest()
 	d.ledger = ledger
 	d.granted = newWriter(ledger, patience/partOfGrant, ledger.beat)
 	d.other = newWriter(&stream{to: out}, patience/partOfOther, nil)
@@ -130,7 +130,7 @@ func (d *daemon) serve(listener net.Listener) error {
 // watchClock writes an event if the time of day went back since the last call.
 func (d *daemon) watchClock() {
 	d.clock.note(d.now())
-	if backs := d.clock.times.Load(); backs > d.backs {
+	if backs := d.clock.timesBack.Load(); backs > d.backs {
 		d.backs = backs
 		d.tell("the clock went back", nil)
 	}

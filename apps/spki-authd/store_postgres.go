@@ -31,14 +31,14 @@ type pool struct {
 	// The SQL of each statement, by its number: askRows to askKeep.
 	texts [asks]string
 	// How often renew was called: a connection that was opened before the last call is closed before it is used again.
-	times atomic.Int64
+	renewals atomic.Int64
 }
 
-// A link is a connection, its prepared statements by their numbers, which are nil until they are used, and the pool's `times` when it was opened.
+// A link is a connection, its prepared statements by their numbers, which are nil until they are used, and the pool's `renewals` when it was opened.
 type link struct {
 	driver.Conn
 	statements [asks]driver.Stmt
-	times      int64
+	renewals   int64
 }
 
 // The numbers of the statements, each named by the method of reader that uses it, and how many there are.
@@ -124,7 +124,7 @@ func (d dialer) DialTimeout(network, address string, _ time.Duration) (net.Conn,
 
 // renew has each connection closed before it would be used again.
 func (p *pool) renew() {
-	p.times.Add(1)
+	p.renewals.Add(1)
 }
 
 // take takes a connection from a slot, or opens a new one. The caller puts it into p.slots again, or nil after closing it. It fails if no slot is free in
@@ -138,8 +138,8 @@ func (p *pool) take() (*link, error) {
 	case <-timer.C:
 		return nil, errors.New("no connection is free")
 	}
-	times := p.times.Load()
-	if taken != nil && taken.times == times {
+	renewals := p.renewals.Load()
+	if taken != nil && taken.renewals == renewals {
 		return taken, nil
 	}
 	if taken != nil {
@@ -150,7 +150,7 @@ func (p *pool) take() (*link, error) {
 		p.slots <- nil
 		return nil, err
 	}
-	return &link{Conn: opened, times: times}, nil
+	return &link{Conn: opened, renewals: renewals}, nil
 }
 
 // ask runs the statement with a number such as askRows and these values of its parameters, and calls a function with each of its rows. The row's values are
