@@ -37,7 +37,7 @@ func leastWith(fields string) string {
 // TestWrongConfigs reads what is no configuration, and the least one with one wrong field: each is refused.
 func TestWrongConfigs(t *testing.T) {
 	for _, text := range []string{
-		"", "{}", "[]", "null", leastConfig[:40], leastConfig + "x", leastConfig + "{}", leastWith(`"unknown": 1`), leastWith(`"limits": {"octet": 1}`),
+		"", "{}", "[]", "null", leastConfig[:len(leastConfig)/2], leastConfig + "x", leastConfig + "{}", leastWith(`"unknown": 1`), leastWith(`"limits": {"octet": 1}`),
 		strings.Replace(leastConfig, "nginx", "lighttpd", 1), strings.Replace(leastConfig, `"/acl"`, `""`, 1),
 		strings.Replace(leastConfig, "unix:/run/x/s", "unix:s", 1), strings.Replace(leastConfig, "unix:/run/x/s", "0.0.0.0:80", 1),
 		strings.Replace(leastConfig, "unix:/run/x/s", ":80", 1),
@@ -47,7 +47,9 @@ func TestWrongConfigs(t *testing.T) {
 		leastWith(`"cache": -1`), leastWith(`"limits": {"seconds": -1}`),
 		leastWith(`"certificate_form": "pem"`), leastWith(`"headers": {"method": "authorization"}`), leastWith(`"headers": {"method": "a", "uri": "A"}`),
 		leastWith(`"headers": {"method": "a b"}`), strings.Replace(leastConfig, `{"GET": "read"}`, `{}`, 1), leastWith(`"cache": "1"`),
-		leastWith(`"path_prefix": "/auth"`), leastWith(`"limits": {"seconds": 86401}`), leastWith(`"limits": {"seconds": 9300000000}`),
+		leastWith(`"path_prefix": "/auth"`),
+		// (one second more than mostSeconds, and more than a time.Duration has)
+		leastWith(`"limits": {"seconds": 86401}`), leastWith(`"limits": {"seconds": 9300000000}`),
 	} {
 		if _, err := parseConfig([]byte(text)); err == nil {
 			t.Errorf("accepted: %s", text)

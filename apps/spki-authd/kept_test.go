@@ -209,7 +209,7 @@ func TestWhichChainsAreKept(t *testing.T) {
 		{"no signature", "refused sequence 1 UnsignedCert", []string{s.toBob}},
 	} {
 		// (a new folder, so that no row leaves a sequence for the next one)
-		s.chains = newFolderChains(t, 2, 2)
+		s.chains = newFolderChains(t, chains{Each: 2, Keys: 2})
 		status, reply := s.leaves(t, s.bob, sequence(row.shown...))
 		line, isKept := s.lastLine(t), s.keeps(t, s.bob)
 		if row.reason == "" && (status != 201 || reply != answerKept || !isKept) {
@@ -264,11 +264,12 @@ func TestStrangersLeave(t *testing.T) {
 	}
 }
 
-// newFolderChains returns the chainKeeper of a new, empty folder. It keeps each sequence for nine days: at most `each` of a key, and those of at most
-// `keys` keys.
-func newFolderChains(t *testing.T, each, keys int) *folderChains {
+// newFolderChains returns the chainKeeper of a new, empty folder. It keeps each sequence for nine days: at most limits.Each of a key, and those of at
+// most limits.Keys keys.
+func newFolderChains(t *testing.T, limits chains) *folderChains {
 	t.Helper()
-	kept, err := openFolderChains(&chains{Folder: t.TempDir(), Each: each, Keys: keys, Days: 9}, time.Now(), mayRemove)
+	limits.Folder, limits.Days = t.TempDir(), 9
+	kept, err := openFolderChains(&limits, time.Now(), mayRemove)
 	if err != nil {
 		t.Fatal(err)
 	}
@@ -317,7 +318,7 @@ func heldBy(t *testing.T, kept *folderChains) string {
 // TestClockAhead has the clock ahead for a while. Meanwhile the sequence of a key does not count, and afterwards it does again. A start with the clock
 // ahead keeps it too, unless by that clock the sequence ended over nine days ago.
 func TestClockAhead(t *testing.T) {
-	kept, now := newFolderChains(t, 1, 2), time.Now()
+	kept, now := newFolderChains(t, chains{Each: 1, Keys: 2}), time.Now()
 	count := func(at time.Time) int {
 		current, _ := kept.currentOf("a", at)
 		return len(current)
@@ -350,7 +351,7 @@ func TestClockAhead(t *testing.T) {
 // TestEndedGiveWay has room for two sequences of each of two keys. Ended ones are removed where another one needs their room, and no others. A row
 // has the hours since the begin, the key and the text that are added, the answer, and all texts that are kept afterwards.
 func TestEndedGiveWay(t *testing.T) {
-	kept, begun := newFolderChains(t, 2, 2), time.Now()
+	kept, begun := newFolderChains(t, chains{Each: 2, Keys: 2}), time.Now()
 	for _, row := range []struct {
 		hours     int
 		key, text string
@@ -387,7 +388,7 @@ func TestEndedGiveWay(t *testing.T) {
 
 // TestEndedOctets has two sequences of four octets each, and room for two octets more. Once they have ended, the first makes room for one of five octets.
 func TestEndedOctets(t *testing.T) {
-	kept, now := newFolderChains(t, 2, 2), time.Now()
+	kept, now := newFolderChains(t, chains{Each: 2, Keys: 2}), time.Now()
 	kept.octets = mostLeft - 10
 	mustAdd(t, kept, "a", "1234", now, answerKept)
 	mustAdd(t, kept, "a", "5678", now.Add(time.Hour), answerKept)
@@ -405,7 +406,7 @@ func TestEndedOctets(t *testing.T) {
 // whichever is read first. With mayRemove false its file stays.
 func TestEndedAtStart(t *testing.T) {
 	for _, ended := range []string{"a", "c"} {
-		kept, now := newFolderChains(t, 1, 2), time.Now()
+		kept, now := newFolderChains(t, chains{Each: 1, Keys: 2}), time.Now()
 		mustAdd(t, kept, ended, "ended", now, answerKept)
 		mustAdd(t, kept, "b", "current", now, answerKept)
 		tenDaysAgo := now.AddDate(0, 0, -10)
@@ -432,7 +433,7 @@ func TestEndedAtStart(t *testing.T) {
 // TestEndedMakeRoom keeps the sequence of one key for nine days where there is room for no other one. Once it has ended, another key's is kept in its
 // place. A row has the key, the days since the row before, and the answer.
 func TestEndedMakeRoom(t *testing.T) {
-	kept, now := newFolderChains(t, 1, 1), time.Now()
+	kept, now := newFolderChains(t, chains{Each: 1, Keys: 1}), time.Now()
 	for _, row := range []struct {
 		key    string
 		later  int
@@ -711,7 +712,7 @@ func TestChainSettings(t *testing.T) {
 // TestDiskThatHangs leaves a sequence where the disk does not answer: its file is a FIFO that nobody reads. Meanwhile currentOf returns what is kept
 // for another key, without waiting.
 func TestDiskThatHangs(t *testing.T) {
-	kept := newFolderChains(t, 1, 9)
+	kept := newFolderChains(t, chains{Each: 1, Keys: 9})
 	chain := kept.chainOf(sequence(), time.Now())
 	path := filepath.Join(kept.Folder, "a", chain.name+partSuffix)
 	if err := os.Mkdir(filepath.Dir(path), 0o700); err != nil {

@@ -228,6 +228,7 @@ func TestReopened(t *testing.T) {
 		t.Fatal(err)
 	}
 	write("two\n")
+	// (the second time there is nothing to do)
 	for turn := 0; turn < 2; turn++ {
 		if err := ledger.reopen(); err != nil {
 			t.Error(err)
@@ -263,8 +264,8 @@ func TestLastSync(t *testing.T) {
 			ledger, disk := openFailing(t, syncs, "")
 			// (whether the error must say that lines may be lost)
 			isLost := syncs == syncSeconds || syncs == syncEach && !isOver
-			// (reports an error unless `err`, that of a step, says so)
-			mustTell := func(step string, err error) {
+			// (reports an error unless `err`, that of a step, says that, or is nil where none may be lost)
+			checkError := func(step string, err error) {
 				t.Helper()
 				if (err != nil) != isLost || err != nil && !strings.Contains(err.Error(), "may not be on the disk") {
 					t.Errorf("%s, %v: %s: %v", syncs, isOver, step, err)
@@ -283,12 +284,12 @@ func TestLastSync(t *testing.T) {
 			if err := os.Rename(ledger.path, ledger.path+".1"); err != nil {
 				t.Fatal(err)
 			}
-			mustTell("reopened", ledger.reopen())
+			checkError("reopened", ledger.reopen())
 			disk = &failingFile{File: ledger.file.(*os.File), room: -1}
 			ledger.file = disk
 			writeUnsynced("two\n")
 			ledger.mustHave(t, "two\n")
-			mustTell("closed", ledger.close())
+			checkError("closed", ledger.close())
 		}
 	}
 }

@@ -6,7 +6,8 @@ import (
 	"time"
 )
 
-// TestMoments compares how moments are written, in the log and in the date of a response, with what package time writes.
+// TestMoments compares how moments are written, in the log and in the date of a response, with what package time writes. Some are in the second of
+// the moment before, whose text secondOf keeps, and others are not.
 func TestMoments(t *testing.T) {
 	begin := time.Date(2026, 2, 28, 23, 59, 59, 999_999_999, time.FixedZone("east", 3600))
 	for _, moment := range []time.Time{begin, begin.Add(time.Nanosecond), begin.Add(time.Millisecond), begin.Add(-time.Hour), begin, {}, time.Unix(-1, 5)} {

@@ -86,7 +86,7 @@ func key(number int) []byte {
 func (f *figures) timeOf(number int) time.Duration {
 	question := guard.Question{Sequence: noCertificates, Key: spki.AssumeKey(key(number)), Words: []string{"files", "read", "/web/x"}, Time: time.Now()}
 	begun := time.Now()
-	decision, err := f.decides(question)
+	decision, err := f.decide(question)
 	took := time.Since(begun)
 	if err != nil || !decision.Granted() {
 		f.Error(number, decision, err)
@@ -94,8 +94,9 @@ func (f *figures) timeOf(number int) time.Duration {
 	return took
 }
 
-// decides asks the store as the daemon does: a list that another goroutine has dropped meanwhile is asked for again.
-func (f *figures) decides(question guard.Question) (guard.Decision, error) {
+// decide asks the store as the daemon does: a list that another goroutine has dropped meanwhile is asked for again. The question shows no
+// certificates, so no signature is verified.
+func (f *figures) decide(question guard.Question) (guard.Decision, error) {
 	for {
 		list, err := f.store.list(&question)
 		if err != nil {
@@ -193,7 +194,7 @@ func (f *figures) measureLoad() {
 }
 
 // BenchmarkStored measures one decision: Carol shows two certificates, whose signatures the first turn verifies. The entries are in a store, and kept from
-// that turn on.
+// that turn on. No line is logged.
 func BenchmarkStored(b *testing.B) {
 	s := newStored(b)
 	s.logGrant = func([]byte) error { return nil }

@@ -88,8 +88,9 @@ func TestStoreServed(t *testing.T) {
 		octets/len(times), (after[ofMachine]-before[ofMachine]).Seconds()/took.Seconds())
 }
 
-// populate makes people, puts their entries into the store, and makes the request of each.
+// populate makes people, puts their entries into the store, and sets `requests`. It waits until the daemons have polled that.
 func (l *load) populate() {
+	// (it opens the store: its number of keys is not used)
 	f := newFigures(l.T, 1)
 	writer, err := openReader(f.store.options, time.Minute)
 	if err != nil {
@@ -240,14 +241,16 @@ func busyTime() time.Duration {
 	if len(fields) < 9 {
 		return 0
 	}
+	// (by proc(5): user, nice and system, and irq, softirq and steal)
 	return ticksIn(fields[1:4]) + ticksIn(fields[6:9])
 }
 
-// ticksIn returns the time of some fields, which count hundredths of a second.
+// ticksIn returns the sum of the times in some fields, each a number of ticks of a hundredth of a second.
 func ticksIn(fields []string) (sum time.Duration) {
+	const tick = 10 * time.Millisecond
 	for _, each := range fields {
 		count, _ := strconv.Atoi(each)
-		sum += time.Duration(count) * 10 * time.Millisecond
+		sum += time.Duration(count) * tick
 	}
 	return sum
 }

@@ -328,11 +328,13 @@ func TestStoredChains(t *testing.T) {
 	s.table.fault = errors.New("the server is gone")
 	asks("without the entries for the issuer", 503, "")
 	s.table.fault = nil
+	// (another daemon, which has cached nothing)
 	other := newStoredChains(limits, s.table)
 	if chains, err := other.currentOf(hexDigest([]byte(s.bob.key)), s.now()); err != nil || len(chains) != 1 || chains[0].text != bobs {
 		t.Errorf("%v %v", chains, err)
 	}
 	s.table.fault = errors.New("the server is gone")
+	// (from here on nothing is cached)
 	s.chains = newStoredChains(limits, s.table)
 	asks("neither yes nor no", 503, "")
 	leaves("shown, and not kept", answerFailed)
@@ -437,6 +439,7 @@ func TestKeptRows(t *testing.T) {
 			t.Errorf("list %d", number)
 		}
 	}
+	// (the only digest of the list with the number 3)
 	rows.drop([]byte{3})
 	if rows.get(names[3]) != nil || rows.count() != 2 || rows.size != 2*octetsRow || len(rows.byDigest) != 2 {
 		t.Errorf("%d lists of %d octets", rows.count(), rows.size)

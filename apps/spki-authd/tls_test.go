@@ -145,6 +145,8 @@ func TestListenSettings(t *testing.T) {
 	files := `"tls": {"certificate": "/c", "key": "/k"}`
 	secret := `"secret_file": "/s"`
 	control := `"control": "unix:/run/x/control"`
+	// (one octet too long, and as long as may be but for the path of the control socket, which has controlSuffix behind it)
+	long, longControl := "unix:/"+strings.Repeat("x", mostSocketPath), "unix:/"+strings.Repeat("x", mostSocketPath-len(controlSuffix))
 	listen := func(address string, fields ...string) string {
 		return strings.Replace(leastWith(strings.Join(fields, ", ")), "unix:/run/x/s", address, 1)
 	}
@@ -161,7 +163,7 @@ func TestListenSettings(t *testing.T) {
 		listen("tls:127.0.0.1:9180", `"tls": {"certificate": "/c"}`, secret, control): `"tls" is missing`,
 		listen("tls:127.0.0.1:9180", files, secret):                                   `"control"`, listen("tls:192.0.2.1:9180", files, secret, control): "must be",
 		listen("tls:localhost:9180", files, secret, control): "must be", leastWith(files): `"tls" is for a port`,
-		listen("unix:/"+strings.Repeat("x", 107), `"cache": 1`): "at most 107 octets", listen("unix:/"+strings.Repeat("x", 100), `"cache": 1`): `"control"`,
+		listen(long, `"cache": 1`): "at most 107 octets", listen(longControl, `"cache": 1`): `"control"`,
 		leastWith(`"control": "unix:/run/x/s"`): `another one than "listen"`, leastWith(`"control": "/run/x/c"`): "unix:/PATH",
 	} {
 		if _, err := parseConfig([]byte(text)); err == nil || !strings.Contains(err.Error(), wanted) {

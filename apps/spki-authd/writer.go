@@ -89,8 +89,9 @@ func newWriter(to sink, patience time.Duration, eachSecond func()) *writer {
 // write writes a line, which ends with a line feed, and returns when it is written. If it fails with errHangs, the line may still be written later, and with
 // another error it is not. The caller may use the line's octets again in each case.
 func (w *writer) write(line []byte) error {
+	const isKept = false
 	w.mutex.Lock()
-	batch := w.add(line, false)
+	batch := w.add(line, isKept)
 	w.mutex.Unlock()
 	<-batch.done
 	return batch.err
@@ -105,7 +106,8 @@ func (w *writer) offer(line []byte) {
 		w.dropped.Add(1)
 		return
 	}
-	batch := w.add(line, true)
+	const isKept = true
+	batch := w.add(line, isKept)
 	w.mutex.Unlock()
 	if !w.isStuck.Load() {
 		<-batch.done
@@ -170,6 +172,7 @@ func (w *writer) endLate() {
 	remaining := w.waiting[:0]
 	for _, batch := range w.waiting {
 		batch.isFull = batch.isFull || !batch.isKept
+		// (giveUp says whether a late batch is still to be written)
 		if batch.begun.After(late) || w.giveUp(batch) {
 			remaining = append(remaining, batch)
 			continue
