@@ -220,6 +220,7 @@ func (f *folderChains) keepInMemory(key string, chain keptChain, now time.Time) 
 	defer f.mutex.Unlock()
 	// (first, so that it is not among those that are returned: its file is now that of the new one)
 	f.forget(keptFile{key, chain.name})
+	// (the caller has tested that there is room)
 	ended, _ := f.roomFor(key, len(chain.text), now)
 	for _, each := range ended {
 		f.forget(each)

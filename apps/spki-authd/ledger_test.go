@@ -84,7 +84,7 @@ func TestFullDisk(t *testing.T) {
 		if err := ledger.write([]byte("one\n")); err != nil {
 			t.Fatal(err)
 		}
-		disk.room, disk.truncateFails = 2, truncateFails
+		disk.room, disk.truncateFails = len("tw"), truncateFails
 		if ledger.write([]byte("two\n")) == nil {
 			t.Error("a cut line is written")
 		}

@@ -20,7 +20,7 @@ func TestHosts(t *testing.T) {
 	}
 	for _, text := range []string{
 		"", ":443", "a.example.", "a..example", ".example", "a example", "a/b", "a%2eb", "a@b", "a:b", "a:443:443", "::1", "[::1", "[192.0.2.1]", "[x]", "é.example",
-		"a.example:123456", "a,b", "a\x00", strings.Repeat("a", 254),
+		"a.example:123456", "a,b", "a\x00", strings.Repeat("a", mostHost+1),
 	} {
 		if host, err := hostOf(text); err == nil {
 			t.Errorf("%q: %q", text, host)

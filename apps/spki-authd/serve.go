@@ -50,6 +50,7 @@ func (d *daemon) open(out, messages io.Writer) error {
 	}
 	patience := d.config.Limits.timeOfRequest()
 	d.ledger = ledger
+	// (only the ledger has something to do each second)
 	d.granted = newWriter(ledger, patience/partOfGrant, ledger.beat)
 	d.other = newWriter(&stream{to: out}, patience/partOfOther, nil)
 	d.messages = newWriter(&stream{to: messages}, patience/partOfOther, nil)

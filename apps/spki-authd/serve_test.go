@@ -378,6 +378,7 @@ func TestDeadlines(t *testing.T) {
 		if ends(server); connection.until.IsZero() {
 			t.Errorf("%s: it stays", name)
 		}
+		// (the deadline that was over is replaced by one of the time of a request)
 		if err := server.setStage(state, isBusy); err != nil || time.Until(connection.until) < time.Second {
 			t.Errorf("%s: %v, %v", name, err, connection.until)
 		}

@@ -61,7 +61,8 @@ func without(pairs []string, name string) []string {
 	return remaining
 }
 
-// TestSignedRequests asks with signed requests, right ones and changed ones, and compares the status and the reason.
+// TestSignedRequests asks with signed requests, right ones and changed ones, and compares the status and the reason. The site has the names of
+// withSignatures: files.example.org and files.example.net:8443.
 func TestSignedRequests(t *testing.T) {
 	s := newSite(t, withSignatures)
 	bobs, _ := s.sequencesShown()

@@ -158,7 +158,8 @@ func (l *timeline) settle(begun time.Time) {
 			for _, row := range rows[1:] {
 				entries[int(row[0].(int64))] = string(row[1].([]byte))
 			}
-			l.add(&version{entries, begun, time.Time{}}, true)
+			const isCertain = true
+			l.add(&version{entries, begun, time.Time{}}, isCertain)
 			return
 		}
 		select {

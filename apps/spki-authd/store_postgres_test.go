@@ -253,6 +253,7 @@ func (r *rig) answer(question guard.Question) string {
 // enough, and so must answers by entries that were kept (`hits`).
 func TestQuestionsToStore(t *testing.T) {
 	r := newRig(t, time.Minute)
+	// (so that the first questions find entries)
 	for count := 0; count < 60; count++ {
 		r.change()
 	}
@@ -275,6 +276,7 @@ func TestQuestionsToStore(t *testing.T) {
 	questions, _ := strconv.Atoi(os.Getenv(envQuestions))
 	counts := map[string]int{}
 	for count := 0; count < questions && !t.Failed(); count++ {
+		// (now and then, so that kept entries are used between two polls)
 		if count%20 == 0 {
 			if err := r.store.pollOnce(); err != nil {
 				t.Error(err)

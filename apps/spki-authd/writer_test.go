@@ -210,7 +210,7 @@ func TestCutLines(t *testing.T) {
 	if stream.write([]byte("two\n")) == nil || stream.write([]byte("three\n")) == nil {
 		t.Error("a full stream takes lines")
 	}
-	disk.room = 100
+	disk.room = len("\nfour\n")
 	if err := stream.write([]byte("four\n")); err != nil {
 		t.Error(err)
 	}
