@@ -1,5 +1,7 @@
 package main
 
+// A measurement of one decision by certificates. At a site (newSite) Carol may read below /web/docs/a/ by Bob's certificate, and he by Alice's.
+
 import (
 	"net/http"
 	"net/http/httptest"

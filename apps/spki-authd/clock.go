@@ -1,5 +1,7 @@
 package main
 
+// Whether the time of day goes back, by what the daemon notes of it after each answer and each second.
+
 import (
 	"sync/atomic"
 	"time"

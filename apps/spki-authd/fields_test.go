@@ -1,5 +1,7 @@
 package main
 
+// A test of configurations that have a field twice. leastWith returns a right configuration with more fields.
+
 import (
 	"strings"
 	"testing"

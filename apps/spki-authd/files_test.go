@@ -1,5 +1,7 @@
 package main
 
+// Tests of files that the daemon does not read: those that are no ordinary files, and lists that are too long.
+
 import (
 	"errors"
 	"path/filepath"

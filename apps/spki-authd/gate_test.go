@@ -1,5 +1,8 @@
 package main
 
+// A test of the gate before the library, which lets only so many calls of it last at the same time. Status 200 grants, and 503 is a failure of the
+// daemon.
+
 import (
 	"sync"
 	"sync/atomic"

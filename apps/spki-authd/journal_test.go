@@ -1,5 +1,7 @@
 package main
 
+// A log in memory, which tests give the daemon in place of its files, and read.
+
 import (
 	"bytes"
 	"errors"

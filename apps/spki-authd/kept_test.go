@@ -585,8 +585,8 @@ func TestKeptChainsEnd(t *testing.T) {
 	}
 }
 
-// TestEndedFiles keeps one sequence, the same a year later, when it has ended, and the same for another key, which takes the only room. currentOf touches
-// no file, and after each `add` there is one file, that of the key.
+// TestEndedFiles keeps one sequence, the same a year later, when it has ended, and after another year the same for another key, which takes the only
+// room. currentOf touches no file, and after each `add` there is one file, that of the key.
 func TestEndedFiles(t *testing.T) {
 	s := newSiteWithChains(t)
 	begun, kept := time.Now(), s.chains.(*folderChains)

@@ -1,5 +1,7 @@
 package main
 
+// A test of how moments are written.
+
 import (
 	"strings"
 	"testing"

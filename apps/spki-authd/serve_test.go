@@ -181,6 +181,7 @@ func TestConnectionsAreBounded(t *testing.T) {
 }
 
 // TestOtherRequests sends texts that no web server sends. Each gets one line in the log, and an answer of the decider, which is not 200, or none.
+// `long` has more octets than are read for one request, which are twice header_octets.
 func TestOtherRequests(t *testing.T) {
 	s := serveHere(t, `, "limits": {"seconds": 1}`)
 	for name, text := range map[string]string{
