@@ -89,7 +89,7 @@ func TestHealth(t *testing.T) {
 		t.Errorf("%+v", line)
 	}
 	// (the writer's goroutine, which uses the file, changes it between two writes)
-	s.daemon.granted.do(func() { s.daemon.ledger.file = &failingFile{File: s.daemon.ledger.file.(*os.File), room: 0} })
+	s.daemon.granted.callBetweenWrites(func() { s.daemon.ledger.file = &failingFile{File: s.daemon.ledger.file.(*os.File), room: 0} })
 	if status := s.get(t, "/web/x"); status != 503 {
 		t.Errorf("a full disk: %d", status)
 	}

@@ -284,9 +284,9 @@ func mustAdd(t *testing.T, kept *folderChains, key, text string, now time.Time, 
 	}
 }
 
-// heldBy returns the texts of all files in the folder, sorted, with spaces between them. It reports an error unless memory has the same texts, the count
-// of octets is right, and no limit is exceeded.
-func heldBy(t *testing.T, kept *folderChains) string {
+// keptTexts returns the texts of all files in the folder, sorted, with spaces between them. It reports an error unless memory has the same texts, the
+// count of octets is right, and no limit is exceeded.
+func keptTexts(t *testing.T, kept *folderChains) string {
 	t.Helper()
 	// (the path and the text of each file, by what is in memory, and by the folder)
 	var inMemory, inFiles []string
@@ -330,8 +330,8 @@ func TestClockAhead(t *testing.T) {
 	}
 	// (there is room for a second key, so this removes nothing)
 	mustAdd(t, kept, "b", "b1", ahead, answerKept)
-	if count(now) != 1 || heldBy(t, kept) != "a1 b1" {
-		t.Error("it is lost: ", heldBy(t, kept))
+	if count(now) != 1 || keptTexts(t, kept) != "a1 b1" {
+		t.Error("it is lost: ", keptTexts(t, kept))
 	}
 	// (the sequences end after nine days: 8 and 10 days before these starts)
 	for _, row := range []struct {
@@ -342,8 +342,8 @@ func TestClockAhead(t *testing.T) {
 		if err != nil {
 			t.Fatal(err)
 		}
-		if kept = started; count(now.AddDate(0, 0, row.days)) != 0 || count(now) != row.count || heldBy(t, kept) != row.held {
-			t.Errorf("a start %d days later: %d, %q", row.days, count(now), heldBy(t, kept))
+		if kept = started; count(now.AddDate(0, 0, row.days)) != 0 || count(now) != row.count || keptTexts(t, kept) != row.held {
+			t.Errorf("a start %d days later: %d, %q", row.days, count(now), keptTexts(t, kept))
 		}
 	}
 }
@@ -380,7 +380,7 @@ func TestEndedGiveWay(t *testing.T) {
 			t.Errorf("%+v: %q before it is verified", row, refusal)
 		}
 		mustAdd(t, kept, row.key, row.text, now, row.wanted)
-		if held := heldBy(t, kept); held != row.held {
+		if held := keptTexts(t, kept); held != row.held {
 			t.Errorf("%+v: %s", row, held)
 		}
 	}
@@ -423,8 +423,8 @@ func TestEndedAtStart(t *testing.T) {
 			if current, _ := started.currentOf("b", now); len(current) != 1 || (len(files) == 1) != mayRemove {
 				t.Errorf("%s: %v, %v", ended, current, files)
 			}
-			if mayRemove && heldBy(t, started) != "current" {
-				t.Error(ended, heldBy(t, started))
+			if mayRemove && keptTexts(t, started) != "current" {
+				t.Error(ended, keptTexts(t, started))
 			}
 		}
 	}

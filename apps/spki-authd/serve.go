@@ -92,7 +92,7 @@ func (d *daemon) closeLedger() error {
 // withLedger has the writer of grants call a function between two writes, and returns its error, or errHangs if that does not end in time.
 func (d *daemon) withLedger(call func() error) error {
 	result := make(chan error, 1)
-	if !d.granted.do(func() { result <- call() }) {
+	if !d.granted.callBetweenWrites(func() { result <- call() }) {
 		return errHangs
 	}
 	return <-result
@@ -103,10 +103,10 @@ func (d *daemon) withLedger(call func() error) error {
 func (d *daemon) serve(listener net.Listener) error {
 	connections := newConnectionServer(d.decider)
 	go connections.serve(listener)
-	d.tell("started", nil)
+	d.logEvent("started", nil)
 	// (a daemon whose service manager is gone answers all the same)
 	if err := notify(d.statusLine() + "\nREADY=1"); err != nil {
-		d.tell("announced", err)
+		d.logEvent("announced", err)
 	}
 	seconds := time.NewTicker(time.Second)
 	defer seconds.Stop()
@@ -133,7 +133,7 @@ func (d *daemon) watchClock() {
 	d.clock.note(d.now())
 	if backs := d.clock.timesBack.Load(); backs > d.backs {
 		d.backs = backs
-		d.tell("the clock went back", nil)
+		d.logEvent("the clock went back", nil)
 	}
 }
 
@@ -151,7 +151,7 @@ func (d *daemon) end(listener net.Listener, connections *connectionServer) error
 	} else if fault != nil {
 		err = fmt.Errorf("%w; %v", err, fault)
 	}
-	d.tell("ended", err)
+	d.logEvent("ended", err)
 	return err
 }
 
@@ -161,7 +161,7 @@ func (d *daemon) reload(allowFewerEnded bool) error {
 	// (without its service manager the daemon reloads all the same)
 	_ = notify("RELOADING=1")
 	err := d.keeper.reload(d.config, allowFewerEnded, d.now())
-	d.tell("reloaded", err)
+	d.logEvent("reloaded", err)
 	_ = notify(d.statusLine() + "\nREADY=1")
 	return err
 }
@@ -169,7 +169,7 @@ func (d *daemon) reload(allowFewerEnded bool) error {
 // reopen opens the log of grants again, as after it was renamed, and says how that went by an event.
 func (d *daemon) reopen() error {
 	err := d.withLedger(d.ledger.reopen)
-	d.tell("reopened", err)
+	d.logEvent("reopened", err)
 	return err
 }
 
@@ -183,9 +183,9 @@ func (d *daemon) statusLine() string {
 	return line
 }
 
-// tell writes an event: what the daemon did, such as `reloaded`, or, if `fault` is not nil, what it did not do because of that. The event has the digests
-// of the lists and ended certificates that are in force now.
-func (d *daemon) tell(action string, fault error) {
+// logEvent writes an event: what the daemon did, such as `reloaded`, or, if `fault` is not nil, what it did not do because of that. The event has the
+// digests of the lists and ended certificates that are in force now.
+func (d *daemon) logEvent(action string, fault error) {
 	present := d.keeper.present.Load()
 	message := event{
 		Time: stamp(d.now()), Event: action, Entries: present.entries(), List: present.digest, Ended: present.ended.count, EndedDigest: present.ended.digest,
@@ -193,5 +193,5 @@ func (d *daemon) tell(action string, fault error) {
 	if fault != nil {
 		message.Event, message.Detail = action+" not", fault.Error()
 	}
-	d.messages.tell(message)
+	d.messages.offerEvent(message)
 }

@@ -79,7 +79,7 @@ func TestEndsWithoutDisk(t *testing.T) {
 		t.Fatal(err)
 	}
 	// (from now on fsync fails. The writer's goroutine, which uses the file, changes it between two writes)
-	daemon.granted.do(func() {
+	daemon.granted.callBetweenWrites(func() {
 		daemon.ledger.file = &failingFile{File: daemon.ledger.file.(*os.File), room: -1, syncFails: true}
 	})
 	// (the listener is closed by `end`, which waits until this has noticed it)

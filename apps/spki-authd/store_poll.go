@@ -24,13 +24,13 @@ func (s *store) pollOnce() error {
 	var err error
 	follows := false
 	if !before.at.IsZero() {
-		result, err = s.reader.since(before.changes)
+		result, err = s.reader.changesSince(before.changes)
 		// (another time of the same change is another history, and fewer changes or beats are an older state)
 		follows = err == nil && !result.isCut && result.first == before.token && result.changes >= before.changes && result.beat >= before.beat
 	}
 	if err == nil && !follows {
 		begun = s.now()
-		result, err = s.reader.whole()
+		result, err = s.reader.allEnded()
 	}
 	s.mutex.Lock()
 	defer s.mutex.Unlock()

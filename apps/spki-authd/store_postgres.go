@@ -44,8 +44,8 @@ type link struct {
 // The numbers of the statements, each named by the method of reader that uses it, and how many there are.
 const (
 	askRows = iota
-	askSince
-	askWhole
+	askChangesSince
+	askAllEnded
 	askChains
 	askKeep
 	asks
@@ -83,10 +83,10 @@ func openReader(options *storeOf, patience time.Duration) (reader, error) {
 	for ask, text := range map[int]string{
 		askRows: "SELECT " + stateColumns + ", e.number, e.text FROM " + stateTables + " LEFT JOIN LATERAL (" + rowsOf(sha1.Size, 1) + " UNION ALL " +
 			rowsOf(sha256.Size, 2) + " UNION ALL " + rowsOf(sha512.Size, 3) + fmt.Sprintf(" LIMIT %d) e ON true ORDER BY e.number", mostRows+1),
-		askSince: "SELECT " + stateColumns + ", c.number, " + microseconds + ", c.what, c.digest FROM " + stateTables +
+		askChangesSince: "SELECT " + stateColumns + ", c.number, " + microseconds + ", c.what, c.digest FROM " + stateTables +
 			fmt.Sprintf(" LEFT JOIN LATERAL (SELECT * FROM (SELECT number, moment, what, digest FROM @.changes WHERE number >= $1 ORDER BY number LIMIT %d) l)"+
 				" c ON true ORDER BY c.number", mostChanges+2),
-		askWhole: "SELECT " + stateColumns + ", " + microseconds + ", e.certificate FROM " + stateTables +
+		askAllEnded: "SELECT " + stateColumns + ", " + microseconds + ", e.certificate FROM " + stateTables +
 			" LEFT JOIN @.changes c ON c.number = s.changes LEFT JOIN @.ended e ON true",
 		askChains: "SELECT text, (extract(epoch FROM until) * 1000000)::bigint FROM @.chains WHERE key = $1 ORDER BY until, digest",
 		askKeep:   "SELECT @.keep($1, $2, $3, $4, $5)",
@@ -245,11 +245,12 @@ func requireState(hasState bool, err error) error {
 	return err
 }
 
-// since returns the changes after the one with a number, and the time of that one. Behind the state a row has the number, the time, the kind and the digest
-// of a change. The statement also reads the change with that number, and one more than a poll takes, which shows whether there are more.
-func (p *pool) since(number int64) (result pollResult, err error) {
+// changesSince returns the changes after the one with a number, and the time of that one. Behind the state a row has the number, the time, the kind
+// and the digest of a change. The statement also reads the change with that number, and one more than a poll takes, which shows whether there are
+// more.
+func (p *pool) changesSince(number int64) (result pollResult, err error) {
 	hasState, count := false, 0
-	err = p.ask(askSince, func(row []driver.Value) (err error) {
+	err = p.ask(askChangesSince, func(row []driver.Value) (err error) {
 		result.storeState, err = stateIn(row)
 		hasState = true
 		changeNumber, isThere := row[4].(int64)
@@ -257,7 +258,7 @@ func (p *pool) since(number int64) (result pollResult, err error) {
 			return err
 		}
 		moment, _ := row[5].(int64)
-		// (the rows come in the order of their numbers: the last one has the time of the last change, unless isCut, when pollOnce asks `whole`)
+		// (the rows come in the order of their numbers: the last one has the time of the last change, unless isCut, when pollOnce asks `allEnded`)
 		result.token = moment
 		if changeNumber == number {
 			result.first = moment
@@ -280,10 +281,11 @@ func (r *pollResult) note(kind driver.Value, octets []byte) {
 	r.changed = append(r.changed, octets)
 }
 
-// whole returns all ended certificates. Behind the state a row has the time of the last change and the digest of one certificate, or NULL if there is none.
-func (p *pool) whole() (result pollResult, err error) {
+// allEnded returns all ended certificates. Behind the state a row has the time of the last change and the digest of one certificate, or NULL if there
+// is none.
+func (p *pool) allEnded() (result pollResult, err error) {
 	hasState := false
-	err = p.ask(askWhole, func(row []driver.Value) (err error) {
+	err = p.ask(askAllEnded, func(row []driver.Value) (err error) {
 		result.storeState, err = stateIn(row)
 		hasState = true
 		result.token, _ = row[4].(int64)

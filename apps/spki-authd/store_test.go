@@ -20,10 +20,10 @@ type table struct {
 	// The entries, and the SHA-256 digests of their keys, by the numbers of the entries.
 	texts      map[int]string
 	keyDigests map[int]string
-	// All changes, first that with the number 1, and what `whole` returns as ended.
-	news  []change
-	ended []digest
-	state storeState
+	// All changes, first that with the number 1, and what `allEnded` returns as ended.
+	changes []change
+	ended   []digest
+	state   storeState
 	// The error of each call, or nil.
 	fault error
 	// What happens after rows were read and before they are returned.
@@ -59,7 +59,7 @@ func (t *table) note(next change) {
 	// (any later time)
 	t.state.token += 7
 	next.token = t.state.token
-	t.news = append(t.news, next)
+	t.changes = append(t.changes, next)
 }
 
 // rows returns the entries whose key has one of these digests, in the order of their numbers, which are below 100. Before it returns, it calls `meanwhile`
@@ -81,14 +81,14 @@ func (t *table) rows(digests [][]byte) (rows entryRows, err error) {
 	return rows, t.fault
 }
 
-// since returns the changes after the one with a number, and the time of that one, or 0 if there is no such change.
-func (t *table) since(number int64) (pollResult, error) {
+// changesSince returns the changes after the one with a number, and the time of that one, or 0 if there is no such change.
+func (t *table) changesSince(number int64) (pollResult, error) {
 	result := pollResult{storeState: t.state}
 	if number > 0 && number <= t.state.changes {
-		result.first = t.news[number-1].token
+		result.first = t.changes[number-1].token
 	}
 	for place := number; place < t.state.changes; place++ {
-		if each := t.news[place]; each.ended != nil {
+		if each := t.changes[place]; each.ended != nil {
 			result.ended = append(result.ended, *each.ended)
 		} else {
 			result.changed = append(result.changed, []byte(each.keyDigest))
@@ -97,8 +97,8 @@ func (t *table) since(number int64) (pollResult, error) {
 	return result, t.fault
 }
 
-// whole returns the ended certificates of the table, and the state.
-func (t *table) whole() (pollResult, error) {
+// allEnded returns the ended certificates of the table, and the state.
+func (t *table) allEnded() (pollResult, error) {
 	return pollResult{storeState: t.state, ended: t.ended}, t.fault
 }
 
@@ -287,9 +287,9 @@ func TestStoreThatGoesBack(t *testing.T) {
 	s.expect(t, "rows of the moment before", 200)
 	s.expect(t, "rows after the removal", 401)
 	// (a server that lost the third change, the removal, and then had another third one, at another time)
-	s.table.news, s.table.state.changes = s.table.news[:2], 2
+	s.table.changes, s.table.state.changes = s.table.changes[:2], 2
 	s.table.put(7, s.alice.key, s.entryOf(s.alice))
-	s.table.news[2].token, s.table.state.token = 1000, 1000
+	s.table.changes[2].token, s.table.state.token = 1000, 1000
 	s.beat()
 	s.expect(t, "another history", 200)
 }

@@ -206,9 +206,9 @@ func (b *batch) end(err error) {
 	}
 }
 
-// do has the writer's goroutine call a function between two writes, and says whether that returned within the patience. If not, the function was not and
-// will not be called, or it is still running.
-func (w *writer) do(command func()) bool {
+// callBetweenWrites has the writer's goroutine call a function between two writes, and says whether that returned within the patience. If not, the
+// function was not and will not be called, or it is still running.
+func (w *writer) callBetweenWrites(command func()) bool {
 	patience := time.NewTimer(w.patience)
 	defer patience.Stop()
 	done := make(chan struct{})
@@ -227,13 +227,13 @@ func (w *writer) do(command func()) bool {
 
 // flush writes the lines that wait, and returns when that is done, or after the patience.
 func (w *writer) flush() {
-	w.do(func() {
+	w.callBetweenWrites(func() {
 		for w.writeNext() {
 		}
 	})
 }
 
-// run is the writer's goroutine: it writes the lines that wait, and calls eachSecond and the functions of do. It never ends.
+// run is the writer's goroutine: it writes the lines that wait, and calls eachSecond and the functions of callBetweenWrites. It never ends.
 func (w *writer) run() {
 	var beats <-chan time.Time
 	if w.eachSecond != nil {
