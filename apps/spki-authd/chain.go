@@ -68,6 +68,7 @@ func (c *config) namesKey(principal []byte, key guard.ProvenKey, now time.Time) 
 		return false, err
 	}
 	defer list.Close()
+	// (without certificates there is no signature to verify)
 	decision, err := list.Decide(guard.Question{Sequence: noCertificates, Key: key, Words: anyWords, Time: now}, nil)
 	return decision.Granted(), err
 }

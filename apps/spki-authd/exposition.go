@@ -62,6 +62,7 @@ func (d *daemon) exposition() string {
 	text.writeSingle("list_entries", "gauge", "Entries of all lists.", present.entries())
 	text.writeSingle("ended_certificates", "gauge", "Digests in the file of ended certificates.", present.ended.count)
 	text.writeFamily("state_info", "gauge", "The digests of the lists and of the ended certificates.")
+	// (such a metric always has the value 1: its labels say all)
 	text.writeValue("state_info", fmt.Sprintf("{ended=%q,list=%q}", present.ended.digest, present.digestNow()), 1)
 	text.writeSingle("reloads_total", "counter", "Reloads, with that of the start.", d.keeper.reloads.Load())
 	text.writeSingle("reloads_refused_total", "counter", "Reloads that were refused.", d.keeper.refused.Load())
