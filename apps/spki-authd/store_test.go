@@ -174,8 +174,8 @@ func (s *storedSite) expect(t *testing.T, name string, wanted int) {
 	}
 }
 
-// TestStoreDecides asks by a list in a store, in which entries are added and removed, and certificates end. Rows are read once, until a poll finds that they
-// have changed. The log has the number of an entry in the store, and that of the store's last change.
+// TestStoreDecides asks by a list in a store. Rows that were read are kept, and not read again. The log has the number of an entry in the store, and
+// that of the store's last change.
 func TestStoreDecides(t *testing.T) {
 	s := newStored(t)
 	bobs, carols := s.sequencesShown()
@@ -199,6 +199,15 @@ func TestStoreDecides(t *testing.T) {
 	s.expect(t, "Alice again", 200)
 	if s.table.reads != reads {
 		t.Error("rows that are kept are read again")
+	}
+}
+
+// TestStoreChanges has entries added and removed, and a certificate end, while rows for Alice's key are kept: each change counts once it was polled.
+func TestStoreChanges(t *testing.T) {
+	s := newStored(t)
+	bobs, _ := s.sequencesShown()
+	if response := s.askAs(s.bob, "GET", "/web/docs/b", bobs); response.StatusCode != 200 {
+		t.Errorf("Bob: %d", response.StatusCode)
 	}
 	s.table.put(9, s.alice.key, s.entryOf(s.alice))
 	s.table.put(7, s.alice.key, "")
@@ -294,55 +303,75 @@ func TestStoreThatGoesBack(t *testing.T) {
 	s.expect(t, "another history", 200)
 }
 
-// TestStoredChains leaves certificates in a store, where another daemon finds them. What was read is used again for cachedFor. Where the store does not
-// answer, the answer is 503 and neither yes nor no.
-func TestStoredChains(t *testing.T) {
+// newStoredWithChains returns a storedSite at which clients can leave certificates, which its table keeps.
+func newStoredWithChains(t *testing.T) *storedSite {
+	t.Helper()
 	s := newStored(t, `, "chains": {"postgres": {"host": "/run", "database": "d", "user": "u"}}`+withSignatures)
 	s.table.kept = map[digest][]keptChain{}
-	limits := s.config.Chains
-	s.chains = newStoredChains(limits, s.table)
+	s.forgetChains()
+	return s
+}
+
+// forgetChains has the site cache no sequences of its table any more, as after a start of the daemon.
+func (s *storedSite) forgetChains() {
+	s.chains = newStoredChains(s.config.Chains, s.table)
+}
+
+// expectKept has Bob ask without showing certificates, and reports an error, which begins with `name`, unless the status is the one that is wanted.
+// `kept` is what the log must have: `used` if certificates that he has left grant the request, and otherwise an empty text.
+func (s *storedSite) expectKept(t *testing.T, name string, wanted int, kept string) {
+	t.Helper()
+	if status := s.statusFor(s.bob, "/web/docs/b", ""); status != wanted || s.lastLine(t).Kept != kept {
+		t.Errorf("%s: %d %+v", name, status, s.lastLine(t))
+	}
+}
+
+// expectLeft has Bob leave his certificate, and reports an error, which begins with `name`, unless the answer is the one that is wanted.
+func (s *storedSite) expectLeft(t *testing.T, name string, wanted answer) {
+	t.Helper()
 	bobs, _ := s.sequencesShown()
-	// (Bob asks without showing certificates. `kept` is `used` if those that he has left grant the request)
-	asks := func(name string, wanted int, kept string) {
-		t.Helper()
-		if status := s.statusFor(s.bob, "/web/docs/b", ""); status != wanted || s.lastLine(t).Kept != kept {
-			t.Errorf("%s: %d %+v", name, status, s.lastLine(t))
-		}
+	if _, reply := s.leaves(t, s.bob, bobs); reply != wanted {
+		t.Errorf("%s: %q", name, reply)
 	}
-	leaves := func(name string, wanted answer) {
-		t.Helper()
-		if _, reply := s.leaves(t, s.bob, bobs); reply != wanted {
-			t.Errorf("%s: %q", name, reply)
-		}
-	}
-	asks("nothing is kept", 401, "")
-	leaves("kept", answerKept)
-	asks("used", 200, "used")
+}
+
+// TestStoredChains leaves certificates in a store, where another daemon finds them until they end. What was read is used again for cachedFor.
+func TestStoredChains(t *testing.T) {
+	s := newStoredWithChains(t)
+	s.expectKept(t, "nothing is kept", 401, "")
+	s.expectLeft(t, "kept", answerKept)
+	s.expectKept(t, "used", 200, "used")
 	reads := s.table.reads
-	asks("used again", 200, "used")
+	s.expectKept(t, "used again", 200, "used")
 	if s.table.reads != reads {
 		t.Errorf("read %d times", s.table.reads-reads)
 	}
-	// (the second digest of a key is that by SHA-256)
-	s.store.kept.drop(digestsOf([]byte(s.alice.key))[1])
-	s.table.fault = errors.New("the server is gone")
-	asks("without the entries for the issuer", 503, "")
-	s.table.fault = nil
-	// (another daemon, which has cached nothing)
-	other := newStoredChains(limits, s.table)
-	if chains, err := other.currentOf(hexDigest([]byte(s.bob.key)), s.now()); err != nil || len(chains) != 1 || chains[0].text != bobs {
+	bobs, _ := s.sequencesShown()
+	other, bobsKey := newStoredChains(s.config.Chains, s.table), hexDigest([]byte(s.bob.key))
+	if chains, err := other.currentOf(bobsKey, s.now()); err != nil || len(chains) != 1 || chains[0].text != bobs {
 		t.Errorf("%v %v", chains, err)
 	}
-	s.table.fault = errors.New("the server is gone")
-	// (from here on nothing is cached)
-	s.chains = newStoredChains(limits, s.table)
-	asks("neither yes nor no", 503, "")
-	leaves("shown, and not kept", answerFailed)
-	s.table.fault, s.table.keepAnswer, s.table.kept = nil, answerYes, map[digest][]keptChain{}
-	leaves("an answer that the store never gives", answerFailed)
-	if chains, err := other.currentOf(hexDigest([]byte(s.bob.key)), s.now().AddDate(1, 0, 0)); err != nil || chains != nil {
+	if chains, err := other.currentOf(bobsKey, s.now().AddDate(1, 0, 0)); err != nil || chains != nil {
 		t.Errorf("a year later: %v %v", chains, err)
 	}
+}
+
+// TestStoredChainsThatAreNotRead has the store not answer: the answer to a request that may be granted by certificates in it is 503, and neither yes
+// nor no, and that to certificates that are left is `failed`. So is that where the store gives an answer that it should never give.
+func TestStoredChainsThatAreNotRead(t *testing.T) {
+	s := newStoredWithChains(t)
+	s.expectLeft(t, "kept", answerKept)
+	s.expectKept(t, "used", 200, "used")
+	// (the sequence is cached, and the entries for Alice, who has issued the certificate, must be read. The second digest of a key is that by
+	// SHA-256)
+	s.store.kept.drop(digestsOf([]byte(s.alice.key))[1])
+	s.table.fault = errors.New("the server is gone")
+	s.expectKept(t, "without the entries for the issuer", 503, "")
+	s.forgetChains()
+	s.expectKept(t, "without the sequences", 503, "")
+	s.expectLeft(t, "not kept", answerFailed)
+	s.table.fault, s.table.keepAnswer, s.table.kept = nil, answerYes, map[digest][]keptChain{}
+	s.expectLeft(t, "an answer that the store never gives", answerFailed)
 }
 
 // TestHostileRows reads rows that are not exactly one entry, or are too long, beside a right one: Alice is not granted anything then. An empty text takes the
