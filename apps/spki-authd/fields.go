@@ -1,6 +1,6 @@
 package main
 
-// A test of the configuration's text: no object in it may have a field twice.
+// A check of the configuration's text: no object in it may have a field twice.
 
 import (
 	"bytes"

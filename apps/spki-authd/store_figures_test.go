@@ -2,7 +2,8 @@
 
 package main
 
-// Measurements of decisions by a store in PostgreSQL, which bench/store.py fills, has run, and reads: each figure is a line on standard output.
+// Measurements of decisions by a store in PostgreSQL. bench/store.py fills the store, runs these, and reads their figures: each is a line on standard
+// output.
 
 import (
 	"errors"
