@@ -214,7 +214,8 @@ func TestHeadersOfRequests(t *testing.T) {
 	}
 }
 
-// TestManyCertificates shows the same certificate 16 times, as often as may be, which is denied, since it does not join itself. Once more is refused.
+// TestManyCertificates shows the same certificate 16 times, which is denied, since its subject is not its issuer. With 17, one more than the library
+// reads, the request is refused.
 func TestManyCertificates(t *testing.T) {
 	s := newSite(t, "")
 	signed := s.alice.sign(s.toBob)

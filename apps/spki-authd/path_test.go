@@ -40,7 +40,7 @@ func TestUnclearPaths(t *testing.T) {
 	}
 }
 
-// TestLongPaths reads a path of as many octets as may be, with a query that does not count, and one octet more.
+// TestLongPaths reads a path of as many octets as are allowed, with a query that does not count, and one of one octet more, which is refused.
 func TestLongPaths(t *testing.T) {
 	const most = 100
 	long := "/" + strings.Repeat("a", most-1)

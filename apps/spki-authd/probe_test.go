@@ -125,7 +125,7 @@ func TestProbe(t *testing.T) {
 	}
 }
 
-// TestProbePaths compares the paths that are asked for: none is asked for twice, and each is drawn by chance. So is the second path of COPY and MOVE.
+// TestProbePaths compares the paths that are asked for: none is asked for twice, and each is drawn at random. So is the second path of COPY and MOVE.
 func TestProbePaths(t *testing.T) {
 	seconds := map[string]bool{}
 	_, _, paths := probeHandler(t, func(answer http.ResponseWriter, request *http.Request) {

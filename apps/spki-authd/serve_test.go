@@ -251,8 +251,8 @@ func TestRequestsInOneConnection(t *testing.T) {
 	}
 }
 
-// TestWaitingConnections asks where as many connections are open as may be. One that is idle makes room. Beside one on which a request is under way
-// the answer comes when that one is closed, and until then no line.
+// TestWaitingConnections asks where one connection is open, and only one is allowed. One that is idle makes room. Beside one on which a request is
+// under way the answer comes when that one is closed, and until then no line.
 func TestWaitingConnections(t *testing.T) {
 	s := serveHere(t, `, "limits": {"connections": 1, "seconds": 60}`)
 	first, err := net.Dial("unix", s.socket)

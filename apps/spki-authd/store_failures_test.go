@@ -121,8 +121,8 @@ func copyOf(row []driver.Value) []driver.Value {
 // The statement that adds a beat, by the clock of a server. The table `error` says by how much that is wrong, as the test sets it.
 const beats = "UPDATE @.heartbeat SET number = number + 1, moment = clock_timestamp() + (SELECT by FROM @.error)"
 
-// change adds an entry or removes one, with a beat, and notes the version. Below 40 entries it adds one, and otherwise it does either by chance. If that
-// fails, it is not certain whether it was done: then settle finds out.
+// change adds an entry or removes one, with a beat, and notes the version. Below 40 entries it adds one, and otherwise it does either at random. If
+// that fails, it is not certain whether it was done: then settle finds out.
 func (l *timeline) change() {
 	last := l.past[len(l.past)-1].entries
 	next, begun := make(map[int]string, len(last)+1), time.Now()

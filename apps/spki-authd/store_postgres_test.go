@@ -115,7 +115,7 @@ func (r *rig) runStatement(text string, values ...driver.Value) (first int64) {
 	return first
 }
 
-// somebody returns one of the people by chance.
+// somebody returns one of the people at random.
 func (r *rig) somebody(random *rand.Rand) person {
 	return r.people[random.Intn(len(r.people))]
 }
@@ -135,7 +135,7 @@ func principalOf(who person, random *rand.Rand) string {
 	return who.key
 }
 
-// entry returns an entry by chance: for somebody's key or its hash, or for their name `friends`, and for one of three folders.
+// entry returns a random entry: for somebody's key or its hash, or for their name `friends`, and for one of three folders.
 func (r *rig) entry() string {
 	subject, more := principalOf(r.somebody(r.random), r.random), ""
 	if r.random.Intn(8) == 0 {
@@ -148,8 +148,8 @@ func (r *rig) entry() string {
 	return "(5:entry" + subject + more + "(3:tag" + prefix("read", folder) + "))"
 }
 
-// change adds an entry or removes one, as another client does, and notes the list after it. Below 40 entries it adds one, and otherwise it does either by
-// chance.
+// change adds an entry or removes one, as another client does, and notes the list after it. Below 40 entries it adds one, and otherwise it does
+// either at random.
 func (r *rig) change() {
 	next := map[int]string{}
 	for number, text := range r.entries {
@@ -181,7 +181,7 @@ func numbersOf(entries map[int]string) []int {
 	return numbers
 }
 
-// question returns a question by chance with up to three certificates, each from one person to the next. About one of 20 certificates is signed by
+// question returns a random question with up to three certificates, each from one person to the next. About one of 20 certificates is signed by
 // anybody, and about one of 20 sequences has a value that is no certificate, so that it is refused.
 func (r *rig) question(random *rand.Rand) guard.Question {
 	chain := []person{r.somebody(random)}
