@@ -1,5 +1,8 @@
 package main
 
+// The access lists and the ended certificates that are in force, and reloads, which read both again. An ended certificate is one that an operator has
+// ended before its time: a file or a store has its digest.
+
 import (
 	"crypto/sha256"
 	"encoding/hex"

@@ -1,5 +1,7 @@
 package main
 
+// A measurement of one decision by certificates. At a site (newSite) Carol may read below /web/docs/a/ by Bob's certificate, and he by Alice's.
+
 import (
 	"net/http"
 	"net/http/httptest"
@@ -23,7 +25,7 @@ func BenchmarkHandler(b *testing.B) {
 	b.ReportAllocs()
 	for turn := 0; turn < b.N; turn++ {
 		result := s.answerTo(request)
-		if buffer = result.response(buffer, time.Now(), false); result.Status != http.StatusOK {
+		if buffer = result.response(buffer, time.Now(), !isLast); result.Status != http.StatusOK {
 			b.Fatal(result.Status)
 		}
 	}

@@ -1,5 +1,7 @@
 package main
 
+// Which signatures of certificates are known to be valid, so that they are not verified again.
+
 import (
 	"crypto/sha256"
 	"encoding/binary"

@@ -1,5 +1,7 @@
 package main
 
+// Tests of the cache, which keeps the valid signatures that were asked for last, so that they are not verified again.
+
 import (
 	"crypto/sha256"
 	"fmt"
@@ -9,12 +11,13 @@ import (
 	"conguraki/spki/guard"
 )
 
-// verifies asks a cache whether a signature is valid, and whether it knew that. It makes the digest of the message, which the daemon has already.
+// verifies asks a cache whether a signature is valid, and whether that was known without `verify`. It computes the digest of the message, which the
+// daemon has already.
 func verifies(c *cache, signature guard.Signature, verify guard.Verify) (isValid, wasKnown bool) {
 	return c.verifies(signature, sha256.Sum256(signature.Message), verify)
 }
 
-// numbered returns a made-up signature, another one for each number, which is its message.
+// numbered returns a made-up signature, another one for each number. Its message is the number in decimal digits.
 func numbered(number int) guard.Signature {
 	return guard.Signature{Key: []byte("key"), Message: []byte(fmt.Sprint(number)), Value: []byte("value")}
 }
@@ -54,7 +57,7 @@ func TestCacheTellsPartsApart(t *testing.T) {
 	}
 }
 
-// TestCacheIsBounded asks a cache of 100 signatures for 1000. One that is asked for each time stays, and a cache of 0 keeps none.
+// TestCacheIsBounded asks a cache of 100 signatures for 1000. That with the number 0, which is asked for each time, stays. A cache of 0 keeps none.
 func TestCacheIsBounded(t *testing.T) {
 	cache, valid := newCache(100), func(guard.Signature) bool { return true }
 	for number := 0; number < 1000; number++ {

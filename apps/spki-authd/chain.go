@@ -1,5 +1,8 @@
 package main
 
+// What the daemon tests of a sequence that a client leaves: its signatures, and whether the subject of its last certificate is the client's key. The
+// library answers both, by questions to a list without entries or with one.
+
 import (
 	"bytes"
 	"fmt"
@@ -65,6 +68,7 @@ func (c *config) namesKey(principal []byte, key guard.ProvenKey, now time.Time) 
 		return false, err
 	}
 	defer list.Close()
+	// (without certificates there is no signature to verify)
 	decision, err := list.Decide(guard.Question{Sequence: noCertificates, Key: key, Words: anyWords, Time: now}, nil)
 	return decision.Granted(), err
 }

@@ -1,5 +1,7 @@
 package main
 
+// How the key of the client's TLS certificate is read from a header. Each web server passes the certificate on in one of three forms.
+
 import (
 	"bytes"
 	"crypto/x509"

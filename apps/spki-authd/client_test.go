@@ -1,5 +1,8 @@
 package main
 
+// Tests of how the key of the client's TLS certificate is read from a header: the form escapedPEM is that of nginx, base64DER that of Caddy, Traefik
+// and others, and xfcc that of Envoy.
+
 import (
 	"crypto/ecdsa"
 	"crypto/elliptic"
@@ -30,6 +33,7 @@ func TestCertificateForms(t *testing.T) {
 // TestWrongCertificateForms reads texts that are not one certificate in the form of a web server: each is refused.
 func TestWrongCertificateForms(t *testing.T) {
 	alice, bob := newPerson(t), newPerson(t)
+	// (`half` is cut behind a multiple of four characters, so that it is still base64)
 	encoded, quote := base64.StdEncoding.EncodeToString(alice.der), `"`
 	element := `Cert="` + alice.escaped() + `"`
 	for name, row := range map[string]struct{ form, text string }{

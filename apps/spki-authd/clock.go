@@ -1,5 +1,7 @@
 package main
 
+// Whether the time of day goes back, by what the daemon notes of it after each answer and each second.
+
 import (
 	"sync/atomic"
 	"time"
@@ -8,7 +10,7 @@ import (
 // A clock notes whether the time of day goes back: then certificates whose window was over count again.
 type clock struct {
 	// The moment that was noted last, in nanoseconds since 1970, and how often note has returned true.
-	last, times atomic.Int64
+	last, timesBack atomic.Int64
 }
 
 // By how much a moment may be before one that another goroutine noted earlier: each reads the clock, and may be interrupted before it notes.
@@ -20,6 +22,6 @@ func (c *clock) note(now time.Time) bool {
 	if now.UnixNano() >= last-int64(backAtLeast) {
 		return false
 	}
-	c.times.Add(1)
+	c.timesBack.Add(1)
 	return true
 }

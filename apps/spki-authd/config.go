@@ -1,5 +1,7 @@
 package main
 
+// The configuration, an object of JSON in a file. A field that is left out has its usual value.
+
 import (
 	"bytes"
 	"encoding/json"
@@ -214,8 +216,8 @@ func (l limits) ofQuestion() guard.Limits {
 	return guard.Limits{Octets: l.Octets, Certificates: l.Certificates, Words: l.Words}
 }
 
-// time returns the time that one request may take: `seconds`.
-func (l limits) time() time.Duration {
+// timeOfRequest returns the time that one request may take: `seconds`.
+func (l limits) timeOfRequest() time.Duration {
 	return time.Duration(l.Seconds) * time.Second
 }
 

@@ -1,5 +1,8 @@
 package main
 
+// Tests of the configuration, an object of JSON. leastConfig is the least one: a list in the file /acl, and one rule, by which GET of a path is the
+// request (files read PATH).
+
 import (
 	"os"
 	"strings"
@@ -26,15 +29,15 @@ func TestLeastConfig(t *testing.T) {
 	}
 }
 
-// leastWith returns the least configuration with more fields in front, such as `"cache": 0`.
+// leastWith returns the least configuration with more fields in front, such as `"cache": 0`, with commas between them.
 func leastWith(fields string) string {
 	return strings.Replace(leastConfig, "{", "{"+fields+", ", 1)
 }
 
-// TestWrongConfigs reads what is no configuration, and the least one with one thing wrong: each is refused.
+// TestWrongConfigs reads what is no configuration, and the least one with one wrong field: each is refused.
 func TestWrongConfigs(t *testing.T) {
 	for _, text := range []string{
-		"", "{}", "[]", "null", leastConfig[:40], leastConfig + "x", leastConfig + "{}", leastWith(`"unknown": 1`), leastWith(`"limits": {"octet": 1}`),
+		"", "{}", "[]", "null", leastConfig[:len(leastConfig)/2], leastConfig + "x", leastConfig + "{}", leastWith(`"unknown": 1`), leastWith(`"limits": {"octet": 1}`),
 		strings.Replace(leastConfig, "nginx", "lighttpd", 1), strings.Replace(leastConfig, `"/acl"`, `""`, 1),
 		strings.Replace(leastConfig, "unix:/run/x/s", "unix:s", 1), strings.Replace(leastConfig, "unix:/run/x/s", "0.0.0.0:80", 1),
 		strings.Replace(leastConfig, "unix:/run/x/s", ":80", 1),
@@ -44,7 +47,9 @@ func TestWrongConfigs(t *testing.T) {
 		leastWith(`"cache": -1`), leastWith(`"limits": {"seconds": -1}`),
 		leastWith(`"certificate_form": "pem"`), leastWith(`"headers": {"method": "authorization"}`), leastWith(`"headers": {"method": "a", "uri": "A"}`),
 		leastWith(`"headers": {"method": "a b"}`), strings.Replace(leastConfig, `{"GET": "read"}`, `{}`, 1), leastWith(`"cache": "1"`),
-		leastWith(`"path_prefix": "/auth"`), leastWith(`"limits": {"seconds": 86401}`), leastWith(`"limits": {"seconds": 9300000000}`),
+		leastWith(`"path_prefix": "/auth"`),
+		// (one second more than mostSeconds, and more than a time.Duration has)
+		leastWith(`"limits": {"seconds": 86401}`), leastWith(`"limits": {"seconds": 9300000000}`),
 	} {
 		if _, err := parseConfig([]byte(text)); err == nil {
 			t.Errorf("accepted: %s", text)
@@ -56,7 +61,7 @@ func TestWrongConfigs(t *testing.T) {
 func TestReasonsOfConfigs(t *testing.T) {
 	ofList := func(list string) string { return strings.Replace(leastConfig, `"list": "/acl"`, list, 1) }
 	for text, wanted := range map[string]string{
-		// (with 0664 others may read, and not write)
+		// (who may only read cannot connect, but no right for others is accepted)
 		leastWith(`"socket_mode": "0664"`):                       "mode is 0664, which gives others than its owner and group a right",
 		leastWith(`"socket_mode": "0666"`):                       `or set "secret_file"`,
 		ofList(`"list": null`):                                   `"list" and "lists" are missing or empty, and one of them must name an access list`,
@@ -89,6 +94,6 @@ func TestSecrets(t *testing.T) {
 		t.Fatal(err)
 	}
 	if _, err := readSecret(path); err == nil {
-		t.Error("a secret that everyone may read is one")
+		t.Error("a secret that everyone may read is accepted")
 	}
 }

@@ -1,5 +1,7 @@
 package main
 
+// The connections of the web server. A connection is at a stage: fresh (no request has begun), busy (one is read or answered) or idle (between two).
+
 import (
 	"context"
 	"errors"
@@ -136,6 +138,7 @@ func (c *connectionState) endIdle() bool {
 		return false
 	}
 	c.hasDeadline = true
+	// (this fails only if the connection is closed)
 	_ = c.connection.SetReadDeadline(time.Now())
 	return true
 }
@@ -184,12 +187,12 @@ func (s *connectionServer) patience(stage stage) time.Duration {
 	case stage == isIdle:
 		return timeIdle
 	}
-	return s.decider.config.Limits.time()
+	return s.decider.config.Limits.timeOfRequest()
 }
 
 // watch ends connections whose time is over, looksInTime times in the time of a request, until isEmpty is closed.
 func (s *connectionServer) watch() {
-	looks := time.NewTicker(s.decider.config.Limits.time() / looksInTime)
+	looks := time.NewTicker(s.decider.config.Limits.timeOfRequest() / looksInTime)
 	defer looks.Stop()
 	for {
 		select {
@@ -216,6 +219,7 @@ func (c *connectionState) endLate(now time.Time) {
 	defer c.mutex.Unlock()
 	if !c.until.IsZero() && now.After(c.until) {
 		c.hasDeadline = true
+		// (this fails only if the connection is closed)
 		_ = c.connection.SetDeadline(now)
 	}
 }
@@ -248,6 +252,7 @@ func (s *connectionServer) endSoon(state *connectionState) {
 	state.mutex.Lock()
 	defer state.mutex.Unlock()
 	if state.stage != isBusy {
+		// (this fails only if the connection is closed)
 		_ = state.connection.SetDeadline(time.Now().Add(s.patience(state.stage)))
 	}
 }
@@ -304,6 +309,7 @@ func (s *connectionServer) answerOne(connection net.Conn, reader *requestReader)
 		}
 	}
 	isLast = isLast || s.isEnding.Load()
+	// (`rooms` has buffers that are used again)
 	buffer := rooms.Get().(*[]byte)
 	*buffer = decision.response(*buffer, time.Now(), isLast)
 	_, err = connection.Write(*buffer)

@@ -1,5 +1,7 @@
 package main
 
+// The control socket, at which the running daemon takes an operator's orders, such as `reload` or `health`.
+
 import (
 	"bufio"
 	"errors"

@@ -1,5 +1,8 @@
 package main
 
+// Tests of the control socket, at which the running daemon takes an operator's orders such as -reload, and of what -health, -state and -metrics
+// print. By the list Alice may read below /web/. Status 0 says that a command is done, and 1 that it failed.
+
 import (
 	"bytes"
 	"io"
@@ -25,7 +28,8 @@ func (s *servedSite) runProgram(t *testing.T, words ...string) (status int, out,
 }
 
 // TestReloadsThatAreRefused has lists read again over the control socket. The status says whether they are in force. A row has the two files, the
-// command line, its status and message, and whether -health says afterwards that all is well.
+// words of the command, its status and message, and whether -health says afterwards that all is well. oneDigest is that of an ended certificate. The
+// list that was read last without an error grants in each case.
 func TestReloadsThatAreRefused(t *testing.T) {
 	s := serveHere(t, "")
 	s.config.Ended = writeFile(t, "ended", withLastLine(oneDigest+"\n"))
@@ -67,13 +71,14 @@ func TestReloadsThatAreRefused(t *testing.T) {
 }
 
 // TestHealth runs -health where the daemon is well, where the disk of its log is full, so that it grants nothing, and where there is no daemon.
+// -health sends one request to the web server's socket too, which is refused, and has the line with healthID in the log.
 func TestHealth(t *testing.T) {
 	s := serveHere(t, "")
-	// (serveHere has put the site's own log in this place)
+	// (serveHere has put a log in memory in this place: now the daemon's own file is written)
 	s.logGrant = s.daemon.granted.write
 	status, out, messages := s.runProgram(t, "-health")
 	for _, wanted := range []string{
-		s.socket + ": answers\n", "\nlast reload: ", ", done\n", "\nreloads: 0, refused 0\n", "\nlists: 1, entries 1, read ", "\nended: 0, " + ofNothing + "\n",
+		s.socket + ": answers\n", "\nlast reload: ", ", done\n", "\nreloads: 0, refused 0\n", "\nlists: 1, entries 1, read ", "\nended: 0, " + digestOfNothing + "\n",
 		"\nlog of grants: lines 0, failures 0\n", "\nclock: went back 0 times\n",
 	} {
 		if status != 0 || !strings.Contains(out, wanted) {
@@ -83,7 +88,8 @@ func TestHealth(t *testing.T) {
 	if line := s.lastLine(t); line.ID != healthID || line.Answer != answerRefused || s.lines() != 1 {
 		t.Errorf("%+v", line)
 	}
-	s.daemon.granted.do(func() { s.daemon.ledger.file = &failingFile{File: s.daemon.ledger.file.(*os.File), room: 0} })
+	// (the writer's goroutine, which uses the file, changes it between two writes)
+	s.daemon.granted.callBetweenWrites(func() { s.daemon.ledger.file = &failingFile{File: s.daemon.ledger.file.(*os.File), room: 0} })
 	if status := s.get(t, "/web/x"); status != 503 {
 		t.Errorf("a full disk: %d", status)
 	}
@@ -130,7 +136,7 @@ func TestBusyMainLoop(t *testing.T) {
 	reloads := busy.keeper.reloads.Load()
 	for _, order := range []string{orderReload, orderReopen} {
 		operator, connection := net.Pipe()
-		// (it waits for the main loop for a second, half of this time)
+		// (it waits for the main loop for half of this time)
 		go busy.answerOrder(connection, 2*time.Second)
 		if _, err := operator.Write([]byte(order + "\n")); err != nil {
 			t.Fatal(err)
@@ -149,7 +155,7 @@ func TestBusyMainLoop(t *testing.T) {
 // /web/x is in the renamed file, and that of /web/y in the new one, which the second turn renames. Without a folder, opening it is an error.
 func TestReopenedByOrder(t *testing.T) {
 	s := serveHere(t, "")
-	// (serveHere has put the site's own log in this place)
+	// (serveHere has put a log in memory in this place: now the daemon's own file is written)
 	s.logGrant = s.daemon.granted.write
 	for turn, how := range []string{"-reopen", "signal"} {
 		s.get(t, "/web/x")
@@ -180,8 +186,8 @@ func TestReopenedByOrder(t *testing.T) {
 	}
 }
 
-// TestStates compares two daemons by -state: they have different lists, then the same, and then one has an ended certificate. Where no daemon answers,
-// that is an error.
+// TestStates compares two daemons by -state, which prints a line for each: they have different lists, then the same, and then one has an ended
+// certificate. Where no daemon answers, that is an error.
 func TestStates(t *testing.T) {
 	one, two := serveHere(t, ""), serveHere(t, "")
 	compare := func() (status int, printed string) {
@@ -198,7 +204,7 @@ func TestStates(t *testing.T) {
 	}
 	two.config.Ended = writeFile(t, "ended", withLastLine(oneDigest+"\n"))
 	two.runProgram(t, "-reload")
-	if status, out := compare(); status != 1 || !strings.Contains(out, "ended 1 "+ofOneLine) {
+	if status, out := compare(); status != 1 || !strings.Contains(out, "ended 1 "+digestOfOneLine) {
 		t.Errorf("%d, %q", status, out)
 	}
 	var stdout, stderr bytes.Buffer
@@ -210,11 +216,12 @@ func TestStates(t *testing.T) {
 // A line of Prometheus' text format, of a value or about a family.
 var metric = regexp.MustCompile(`^(# (HELP|TYPE) [a-z_]+ .+|[a-z_]+(\{[a-z]+="[^"\\]*"(,[a-z]+="[^"\\]*")*\})? [0-9.e+-]+)$`)
 
-// TestMetrics sends six requests, and compares what -metrics prints with what became of them. The first verifies the signature of Bob's certificate, which
-// is known in the next three. The two of Carol's sequence are spared, since Mallory would get nothing by them. `//` is refused before a rule is looked for.
+// TestMetrics sends six requests, and compares what -metrics prints with what became of them. The first verifies the signature of Bob's certificate,
+// which is known in the next three. The two of Carol's sequence are spared, since Mallory would get nothing by them. `//` is refused before a rule is
+// looked for: its rule is 0.
 func TestMetrics(t *testing.T) {
 	s := serveHere(t, "")
-	// (serveHere has put the site's own log in this place)
+	// (serveHere has put a log in memory in this place: now the daemon's own file is written)
 	s.logGrant = s.daemon.granted.write
 	bobs, _ := s.sequencesShown()
 	s.askAs(s.bob, "GET", "/web/docs/b", bobs)

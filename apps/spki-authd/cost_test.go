@@ -1,5 +1,9 @@
 package main
 
+// Tests of how many signatures the daemon verifies for a client. At a site (newSite) Alice may read below /web/, Bob below /web/docs/ by her
+// certificate, and Carol below /web/docs/a/ by his. Mallory has no right. Status 200 grants, 401 (where certificates may help) and 403 deny, 400
+// refuses an unclear request, and 503 is a failure of the daemon.
+
 import (
 	"testing"
 
@@ -30,9 +34,9 @@ func TestCostToStrangers(t *testing.T) {
 		status, calls     int
 		unverified        int
 	}{
-		{"sixteen of her own", sequence(many...), "/web/x", s.mallory, 403, 0, 16}, {"Carol's", carols, "/web/docs/a/b", s.mallory, 403, 0, 2},
+		{"sixteen that Mallory issued", sequence(many...), "/web/x", s.mallory, 403, 0, 16}, {"Carol's", carols, "/web/docs/a/b", s.mallory, 403, 0, 2},
 		{"Bob's", bobs, "/web/docs/b", s.mallory, 403, 0, 1}, {"Bob elsewhere", bobs, "/web/x", s.bob, 403, 0, 1},
-		{"another key's signature", sequence(forged), "/web/x", s.mallory, 403, 0, 0}, {"Alice's name under it", sequence(asAlice), "/web/x", s.mallory, 403, 1, 0},
+		{"another key's signature", sequence(forged), "/web/x", s.mallory, 403, 0, 0}, {"her own, as Alice's", sequence(asAlice), "/web/x", s.mallory, 403, 1, 0},
 		{"Bob", bobs, "/web/docs/b", s.bob, 200, 1, 0}, {"Bob again", bobs, "/web/docs/b", s.bob, 200, 0, 0}, {"Carol", carols, "/web/docs/a/b", s.carol, 200, 1, 0},
 	} {
 		calls = 0

@@ -1,5 +1,7 @@
 package main
 
+// What the daemon counts for its metrics.
+
 import (
 	"sync/atomic"
 	"time"

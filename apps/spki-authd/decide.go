@@ -1,5 +1,8 @@
 package main
 
+// How a request is decided. A record is the answer to it, and its line in the log. Each decision is one of the library, by an access list and the
+// certificates that the client shows.
+
 import (
 	"errors"
 	"strings"
@@ -118,7 +121,7 @@ func (d *decider) judge(result *record, key guard.ProvenKey, path, sequence stri
 	case err != nil:
 		*result = result.withReason(answerOf(err), err)
 	case decision.Granted():
-		result.Answer, result.Entry = answerYes, result.number(decision.Entry())
+		result.Answer, result.Entry = answerYes, result.entryNumber(decision.Entry())
 	case sequence == "":
 		result.Answer = answerUnknown
 	}
@@ -238,14 +241,15 @@ func (d *decider) decideBy(result *record, present *access, list *list, question
 // allows; or the text of the error, if explaining fails. Signatures that were not verified, since they could not help, are marked as valid: so the
 // reasons are what else is missing. These marks come after the decision, and change only the reasons.
 func (d *decider) explain(result *record, opened *guard.Asked) string {
-	if !d.explanations.allows("", d.now()) {
+	const allKeys = ""
+	if !d.explanations.allows(allKeys, d.now()) {
 		return notExplained
 	}
 	if err := markFirst(opened, result.Unverified); err != nil {
 		return err.Error()
 	}
 	explanation, err := opened.Explain()
-	return reasonsOf(explanation, err, result.number)
+	return reasonsOf(explanation, err, result.entryNumber)
 }
 
 // countValid verifies signatures up to the first that is not valid, and returns how many precede that one, or the number of all. `certificates` are

@@ -1,5 +1,7 @@
 package main
 
+// The file of ended certificates: those that an operator has ended before their time, by the SHA-256 digests of their canonical octets.
+
 import (
 	"bytes"
 	"crypto/sha256"

@@ -1,5 +1,7 @@
 package main
 
+// The metrics of the daemon, in Prometheus' text format.
+
 import (
 	"fmt"
 	"strings"
@@ -60,14 +62,15 @@ func (d *daemon) exposition() string {
 	text.writeSingle("list_entries", "gauge", "Entries of all lists.", present.entries())
 	text.writeSingle("ended_certificates", "gauge", "Digests in the file of ended certificates.", present.ended.count)
 	text.writeFamily("state_info", "gauge", "The digests of the lists and of the ended certificates.")
+	// (such a metric always has the value 1: its labels say all)
 	text.writeValue("state_info", fmt.Sprintf("{ended=%q,list=%q}", present.ended.digest, present.digestNow()), 1)
 	text.writeSingle("reloads_total", "counter", "Reloads, with that of the start.", d.keeper.reloads.Load())
 	text.writeSingle("reloads_refused_total", "counter", "Reloads that were refused.", d.keeper.refused.Load())
-	text.writeSingle("last_reload_refused", "gauge", "1 if the last reload was refused.", number(last.fault != nil))
+	text.writeSingle("last_reload_refused", "gauge", "1 if the last reload was refused.", oneIf(last.fault != nil))
 	text.writeSingle("read_timestamp_seconds", "gauge", "When the lists in force were read.", present.read.Unix())
 	text.writeSingle("start_timestamp_seconds", "gauge", "When the daemon was started.", d.begun.Unix())
 	text.writeSingle("clock_seconds", "gauge", "The time of the daemon's clock.", d.now().Unix())
-	text.writeSingle("clock_back_total", "counter", "How often the time of day went back.", d.clock.times.Load())
+	text.writeSingle("clock_back_total", "counter", "How often the time of day went back.", d.clock.timesBack.Load())
 	text.writeStores(present)
 	text.writeSingle("log_lines_total", "counter", "Lines in the log of grants.", d.granted.written.Load())
 	text.writeSingle("log_failures_total", "counter", "Grants that became 503, since their lines could not be written in time.", d.granted.failed.Load())
@@ -75,9 +78,9 @@ func (d *daemon) exposition() string {
 	return text.String()
 }
 
-// number returns 1 for true, and 0 for false.
-func number(isSo bool) int {
-	if isSo {
+// oneIf returns 1 for true, and 0 for false.
+func oneIf(isTrue bool) int {
+	if isTrue {
 		return 1
 	}
 	return 0

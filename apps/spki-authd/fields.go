@@ -1,5 +1,7 @@
 package main
 
+// A check of the configuration's text: no object in it may have a field twice.
+
 import (
 	"bytes"
 	"encoding/json"

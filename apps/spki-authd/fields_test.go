@@ -1,12 +1,15 @@
 package main
 
+// A test of configurations that have a field twice. leastWith returns a right configuration with more fields.
+
 import (
 	"strings"
 	"testing"
 )
 
-// TestFieldsThatAreThereTwice reads objects with a field that is there twice, of which encoding/json uses the last one: they are refused. To encoding/json
-// the long s (017f) is the same as s, and the sign of kelvin (212a) as k. A field whose name is also a value is there once, and accepted.
+// TestFieldsThatAreThereTwice reads configurations with a field that is there twice, of which encoding/json uses the last one: they are refused. In
+// names encoding/json takes the long s (017f) for s, and the sign of kelvin (212a) for k. A field whose name is also a value is there once, and
+// accepted.
 func TestFieldsThatAreThereTwice(t *testing.T) {
 	for _, text := range []string{
 		leastWith(`"li\u017ft": "/other"`), leastWith(`"tls": {"key": "/k", "\u212aey": "/l"}`), leastWith(`"limits": {"seconds": 1, "seconds": 2}`),

@@ -1,5 +1,7 @@
 package main
 
+// How files are read and written. Only an ordinary file is read: a FIFO could hang, and a device have an effect.
+
 import (
 	"errors"
 	"fmt"

@@ -1,5 +1,7 @@
 package main
 
+// Tests of files that the daemon does not read: those that are no ordinary files, and lists that are too long.
+
 import (
 	"errors"
 	"path/filepath"
@@ -18,14 +20,15 @@ func TestSpecialFiles(t *testing.T) {
 		t.Fatal(err)
 	}
 	for _, path := range []string{fifo, "/dev/null", "/dev/zero", "/dev/tty", t.TempDir()} {
-		if _, err := readFile(path, 9); !errors.Is(err, errNoFile) {
+		const mostOctets = 9
+		if _, err := readFile(path, mostOctets); !errors.Is(err, errNoFile) {
 			t.Errorf("%s: %v", path, err)
 		}
 	}
 	s := newSite(t, "")
 	for _, change := range []func(){func() { s.config.Ended = fifo }, func() { s.config.Ended, s.config.List = "", fifo }} {
 		change()
-		if err := s.keeper.reload(s.config, false, s.now()); !errors.Is(err, errNoFile) {
+		if err := s.keeper.reload(s.config, !allowFewerEnded, s.now()); !errors.Is(err, errNoFile) {
 			t.Error(err)
 		}
 	}
@@ -36,6 +39,7 @@ func TestSpecialFiles(t *testing.T) {
 
 // TestLongLists reads a list of 1 MiB, which is accepted, and one of one octet more. The refusal says what to do.
 func TestLongLists(t *testing.T) {
+	// (no entries, and white space, which is allowed)
 	begin, end := "(3:acl", ")"
 	longest := begin + strings.Repeat(" ", mostList-len(begin)-len(end)) + end
 	list, err := readList(writeFile(t, "acl", longest), guard.Strict, usualLimits)

@@ -1,5 +1,9 @@
 package main
 
+// Fuzz tests: whatever a client sends, only what checkGrant allows is granted. At a site (newSite) Alice may read below /web/, Bob below /web/docs/
+// by her certificate, and Carol below /web/docs/a/ by his. Mallory has no right. Status 200 grants, 401 (where certificates may help) and 403 deny,
+// 400 refuses an unclear request, and 503 is a failure of the daemon.
+
 import (
 	"bytes"
 	"encoding/base64"
@@ -17,20 +21,21 @@ func FuzzHeaders(f *testing.F) {
 	s := newSite(f, "")
 	bobs, carols := s.sequencesShown()
 	people := []person{s.alice, s.bob, s.carol, s.mallory}
+	// (what each of the people shows)
 	for who, shown := range []string{"", bobs, carols, carols} {
 		for _, target := range []string{"/web/x", "/web/docs/b", "/web/docs/a/b", "/web/%2e%2e/x", "//web/x"} {
 			f.Add("GET", target, people[who].escaped(), "SPKI "+shown, "")
 			f.Add("GET", target, people[who].escaped(), "", shown)
 		}
 	}
-	f.Fuzz(func(t *testing.T, method, target, certificate, credentials, own string) {
+	f.Fuzz(func(t *testing.T, method, target, certificate, credentials, inHeader string) {
 		defer s.log.Reset()
 		pairs := []string{"X-Original-Method", method, "X-Original-URI", target, "X-Client-Cert", certificate}
 		if credentials != "" {
 			pairs = append(pairs, "Authorization", credentials)
 		}
-		if own != "" {
-			pairs = append(pairs, "X-Spki-Sequence", own)
+		if inHeader != "" {
+			pairs = append(pairs, "X-Spki-Sequence", inHeader)
 		}
 		status, line := s.ask(pairs...).StatusCode, s.lastLine(t)
 		switch status {
@@ -51,6 +56,7 @@ func FuzzSequence(f *testing.F) {
 	s := newSite(f, "")
 	people := []person{s.alice, s.bob, s.carol, s.mallory}
 	bobs := s.alice.sign(s.toBob)
+	// (what each of the people shows)
 	for who, shown := range []string{"", bobs, bobs + s.bob.sign(s.toCarol), s.mallory.sign(s.toBob)} {
 		f.Add(uint8(who), "/web/docs/a/b", []byte("(8:sequence"+shown+")"))
 	}
@@ -66,7 +72,8 @@ func FuzzSequence(f *testing.F) {
 	})
 }
 
-// FuzzLeft leaves octets as certificates, by Bob's key. What is kept has this key in it, or its hash, and no more is granted by it than checkGrant allows.
+// FuzzLeft leaves octets with the daemon as certificates, for later requests by Bob's key. What is kept has this key in it, or its hash, and no more
+// is granted by it than checkGrant allows.
 func FuzzLeft(f *testing.F) {
 	s := newSite(f, `, "chains": {"folder": "`+f.TempDir()+`"}`+withSignatures)
 	bobs, hashed := s.alice.sign(s.toBob), s.alice.signedCertificate(s.bob.hashOfKey(), prefix("read", "/web/docs/"), "(7:comment[1:x]1:y)")

@@ -1,5 +1,7 @@
 package main
 
+// How many calls of the library may last at the same time.
+
 import (
 	"errors"
 	"runtime"

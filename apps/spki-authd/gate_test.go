@@ -1,5 +1,8 @@
 package main
 
+// A test of the gate before the library, which lets only so many calls of it last at the same time. Status 200 grants, and 503 is a failure of the
+// daemon.
+
 import (
 	"sync"
 	"sync/atomic"
@@ -10,7 +13,7 @@ import (
 )
 
 // TestGateOfLibrary sends four requests at once, through a gate that lets two pass. The verifier counts how many are in it: never more than two. If it
-// panics, the request leaves the gate too. If it takes longer than timeAtGate, the other two requests are answered by `failed`, which is 503.
+// panics, the request leaves the gate too, and gets 503. If it takes longer than timeAtGate, the other two requests get 503.
 func TestGateOfLibrary(t *testing.T) {
 	s := newSite(t, `, "cache": 0`)
 	bobs, _ := s.sequencesShown()
@@ -19,6 +22,7 @@ func TestGateOfLibrary(t *testing.T) {
 	defer func() { library = usual }()
 	var mutex sync.Mutex
 	var panics atomic.Bool
+	// (how many are in the verifier, the most that were, and how long each stays there)
 	inside, most, takes := 0, 0, 10*time.Millisecond
 	s.verify = func(guard.Signature) bool {
 		if panics.Load() {

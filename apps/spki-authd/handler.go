@@ -1,5 +1,7 @@
 package main
 
+// The answer to one request of the web server, with its line in the log. No request is granted whose line cannot be written.
+
 import (
 	"errors"
 	"fmt"
@@ -34,6 +36,7 @@ func (d *decider) logFault(answer answer, fault error) record {
 
 // logAnswer sets the status of a record by its answer, and logs the record. A grant that cannot be logged becomes `failed`. Other lines may be lost.
 func (d *decider) logAnswer(result *record) {
+	// (`rooms` has buffers that are used again)
 	buffer := rooms.Get().(*[]byte)
 	defer rooms.Put(buffer)
 	result.Status = result.Answer.status(d.config.RefusedStatus)

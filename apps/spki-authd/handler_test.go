@@ -1,5 +1,9 @@
 package main
 
+// Tests of what the daemon answers to the headers of a web server's request, and of the line that it logs. A site (newSite) is a decider without a
+// socket: Alice may read below /web/, Bob below /web/docs/ by her certificate, and Carol below /web/docs/a/ by his. Mallory has no right. Status 200
+// grants, 401 (where certificates may help) and 403 deny, 400 refuses an unclear request, and 503 is a failure of the daemon.
+
 import (
 	"bufio"
 	"bytes"
@@ -11,6 +15,9 @@ import (
 	"testing"
 	"time"
 )
+
+// Names for arguments of the daemon's functions that are true or false.
+const allowFewerEnded, mayRemove, isLast = true, true, true
 
 // A site is a decider with a list, and the people whom the tests are about. By the list Alice may read below /web/. She gives Bob the right to read
 // below /web/docs/, who gives Carol that below /web/docs/a/. Mallory has no right.
@@ -38,10 +45,17 @@ func newSite(t testing.TB, fields string) *site {
 	}
 	here.decider = newDecider(config)
 	here.logGrant, here.logOther = here.log.grant, here.log.other
-	if err := here.keeper.reload(config, false, here.now()); err != nil {
+	here.mustReload(t)
+	return here
+}
+
+// mustReload has the site read its list and its ended certificates again, and ends the test after an error. Certificates that have ended may count
+// again.
+func (s *site) mustReload(t testing.TB) {
+	t.Helper()
+	if err := s.keeper.reload(s.config, allowFewerEnded, s.now()); err != nil {
 		t.Fatal(err)
 	}
-	return here
 }
 
 // sequencesShown returns the sequences that Bob and Carol show, in transport form: the certificate to Bob, and both.
@@ -59,10 +73,10 @@ func (s *site) ask(pairs ...string) *http.Response {
 	return s.respond(request)
 }
 
-// respond has the site answer a request of the web server, and returns the response that the web server reads.
+// respond has the site answer a request of the web server, and returns the response that the web server reads. It panics if that is no HTTP.
 func (s *site) respond(request *http.Request) *http.Response {
 	result := s.answerTo(request)
-	response, err := http.ReadResponse(bufio.NewReader(bytes.NewReader(result.response(nil, time.Now(), false))), request)
+	response, err := http.ReadResponse(bufio.NewReader(bytes.NewReader(result.response(nil, time.Now(), !isLast))), request)
 	if err != nil {
 		panic(err)
 	}
@@ -78,7 +92,7 @@ func (s *site) askAs(who person, method, target, sequence string) *http.Response
 	return s.ask(pairs...)
 }
 
-// lastLine returns the last line of the log.
+// lastLine returns what the last line of the log says, and ends the test if that is no JSON.
 func (s *site) lastLine(t testing.TB) record {
 	t.Helper()
 	lines := strings.Split(strings.TrimSpace(s.log.String()), "\n")
@@ -122,7 +136,8 @@ func TestAnswers(t *testing.T) {
 	}
 }
 
-// TestHeadersAndLog compares the headers of answers and the lines of the log. No line has a whole key or certificate.
+// TestHeadersAndLog compares the headers and the log's lines of a grant, a denial, a refusal, and a request without certificates. No line has a whole
+// key or certificate.
 func TestHeadersAndLog(t *testing.T) {
 	s := newSite(t, "")
 	bobs, _ := s.sequencesShown()
@@ -174,24 +189,24 @@ func TestHeadersOfRequests(t *testing.T) {
 	s := newSite(t, "")
 	bobs, _ := s.sequencesShown()
 	whole := []string{"X-Original-Method", "GET", "X-Original-URI", "/web/docs/b", "X-Client-Cert", s.bob.escaped(), "Authorization", "SPKI " + bobs}
-	// (`more` adds pairs behind these, and `without` leaves out the pair that begins at a place)
+	// (`more` adds pairs behind these, and `instead` has its pairs in the place of the sequence)
 	more := func(pairs ...string) []string { return append(append([]string(nil), whole...), pairs...) }
-	without := func(place int) []string { return append(append([]string(nil), whole[:place]...), whole[place+2:]...) }
+	instead := func(pairs ...string) []string { return append(without(whole, "Authorization"), pairs...) }
 	for name, row := range map[string]struct {
 		pairs  []string
 		wanted int
 	}{
-		"whole": {whole, 200}, "no method": {without(0), 400}, "no URI": {without(2), 400}, "no certificate": {without(4), 401},
-		"no sequence": {without(6), 401}, "two methods": {more("X-Original-Method", "GET"), 400}, "two URIs": {more("X-Original-URI", "/web/docs/b"), 400},
+		"whole": {whole, 200}, "no method": {without(whole, "X-Original-Method"), 400}, "no URI": {without(whole, "X-Original-URI"), 400},
+		"no certificate": {without(whole, "X-Client-Cert"), 401}, "empty certificate": {withValue(whole, "X-Client-Cert", ""), 401},
+		"no sequence": {instead(), 401}, "two methods": {more("X-Original-Method", "GET"), 400}, "two URIs": {more("X-Original-URI", "/web/docs/b"), 400},
 		"two certificates": {more("X-Client-Cert", s.alice.escaped()), 400}, "two sequences": {more("Authorization", "SPKI "+bobs), 400},
-		"both headers": {more("X-Spki-Sequence", bobs), 400}, "own header": {append(without(6), "X-Spki-Sequence", bobs), 200},
-		"other scheme": {append(without(6), "Authorization", "Basic QTpC"), 401}, "other scheme, own header": {append(without(6), "Authorization", "Bearer x",
-			"X-Spki-Sequence", bobs), 200}, "small letters": {append(without(6), "Authorization", "spki "+bobs), 200},
-		"spaces": {append(without(6), "Authorization", "SPKI    "+bobs), 200}, "no scheme": {append(without(6), "Authorization", bobs), 401},
-		"scheme alone": {append(without(6), "Authorization", "SPKI"), 400}, "advanced form": {append(without(6), "Authorization", "SPKI (sequence)"), 400},
-		"two texts": {append(without(6), "Authorization", "SPKI "+bobs+bobs), 400}, "text behind": {append(without(6), "Authorization", "SPKI "+bobs+" x"), 400},
-		"empty certificate": {append(without(4), "X-Client-Cert", ""), 401}, "long": {more("X-Other", strings.Repeat("x", 131_072)), 400},
-		"long sequence": {append(without(6), "Authorization", "SPKI {"+strings.Repeat("A", 65_536)+"}"), 400},
+		"both headers": {more("X-Spki-Sequence", bobs), 400}, "own header": {instead("X-Spki-Sequence", bobs), 200},
+		"other scheme": {instead("Authorization", "Basic QTpC"), 401}, "small letters": {instead("Authorization", "spki "+bobs), 200},
+		"other scheme, own header": {instead("Authorization", "Bearer x", "X-Spki-Sequence", bobs), 200}, "no scheme": {instead("Authorization", bobs), 401},
+		"spaces": {instead("Authorization", "SPKI    "+bobs), 200}, "scheme alone": {instead("Authorization", "SPKI"), 400},
+		"two texts": {instead("Authorization", "SPKI "+bobs+bobs), 400}, "text behind": {instead("Authorization", "SPKI "+bobs+" x"), 400},
+		"advanced form": {instead("Authorization", "SPKI (sequence)"), 400}, "long": {more("X-Other", strings.Repeat("x", usualLimits.HeaderOctets)), 400},
+		"long sequence": {instead("Authorization", "SPKI {"+strings.Repeat("A", 65_536)+"}"), 400},
 	} {
 		if response := s.ask(row.pairs...); response.StatusCode != row.wanted {
 			t.Errorf("%s: %d, wanted %d: %+v", name, response.StatusCode, row.wanted, s.lastLine(t))
@@ -199,7 +214,8 @@ func TestHeadersOfRequests(t *testing.T) {
 	}
 }
 
-// TestManyCertificates shows the same certificate 16 times, as often as may be, which is denied, since it does not join itself. Once more is refused.
+// TestManyCertificates shows the same certificate 16 times, which is denied, since its subject is not its issuer. With 17, one more than the library
+// reads, the request is refused.
 func TestManyCertificates(t *testing.T) {
 	s := newSite(t, "")
 	signed := s.alice.sign(s.toBob)
@@ -246,9 +262,7 @@ func TestEndedCertificates(t *testing.T) {
 		t.Fatal(response.StatusCode)
 	}
 	s.config.Ended = writeFile(t, "ended", withLastLine(digestOfText(s.toCarol)+" # stolen\n"))
-	if err := s.keeper.reload(s.config, false, s.now()); err != nil {
-		t.Fatal(err)
-	}
+	s.mustReload(t)
 	if response := s.askAs(s.carol, "GET", "/web/docs/a/b", carols); response.StatusCode != 403 || !strings.Contains(s.lastLine(t).Reason, digestOfText(s.toCarol)) {
 		t.Errorf("an ended certificate counts, although its signature is kept: %d, %+v", response.StatusCode, s.lastLine(t))
 	}
@@ -263,7 +277,7 @@ func TestReloads(t *testing.T) {
 	if err := os.WriteFile(s.config.List, []byte("(acl (entry))"), 0o600); err != nil {
 		t.Fatal(err)
 	}
-	if err := s.keeper.reload(s.config, false, s.now()); err == nil || !strings.Contains(err.Error(), "refused acl 1 Shape") {
+	if err := s.keeper.reload(s.config, !allowFewerEnded, s.now()); err == nil || !strings.Contains(err.Error(), "refused acl 1 Shape") {
 		t.Error(err)
 	}
 	if response := s.askAs(s.alice, "GET", "/web/x", ""); response.StatusCode != 200 {
@@ -272,9 +286,7 @@ func TestReloads(t *testing.T) {
 	if err := os.WriteFile(s.config.List, []byte("(acl)"), 0o600); err != nil {
 		t.Fatal(err)
 	}
-	if err := s.keeper.reload(s.config, false, s.now()); err != nil {
-		t.Error(err)
-	}
+	s.mustReload(t)
 	if response := s.askAs(s.alice, "GET", "/web/x", ""); response.StatusCode != 401 {
 		t.Errorf("the old list is asked: %d", response.StatusCode)
 	}
@@ -305,9 +317,7 @@ func TestExplanationsAreBounded(t *testing.T) {
 	if err := os.WriteFile(s.config.List, []byte("(3:acl"+strings.Repeat(entry, 100)+")"), 0o600); err != nil {
 		t.Fatal(err)
 	}
-	if err := s.keeper.reload(s.config, false, s.now()); err != nil {
-		t.Fatal(err)
-	}
+	s.mustReload(t)
 	shown := sequence(s.alice.sign(s.alice.certificate(s.bob, set, "")))
 	for place := 0; place < 8; place++ {
 		wanted := "refused TooLarge"
@@ -348,7 +358,8 @@ func TestPanicIsAFailure(t *testing.T) {
 	}
 }
 
-// TestEnvoy asks as Envoy does, whose requests have the client's target behind path_prefix.
+// TestEnvoy asks as Envoy does, whose requests have the client's target behind path_prefix. A target without that prefix, or with an unclear path
+// behind it, is refused.
 func TestEnvoy(t *testing.T) {
 	s := newSite(t, "")
 	text := strings.Replace(strings.Replace(leastConfig, "nginx", "envoy", 1), "{", `{"path_prefix": "/auth", `, 1)

@@ -1,5 +1,7 @@
 package main
 
+// How -health tests whether the daemon answers, and the state that the daemon then reports.
+
 import (
 	"bytes"
 	"context"
@@ -86,7 +88,7 @@ func (c *config) client() (*http.Client, error) {
 			return nil
 		}}
 	}
-	return &http.Client{Timeout: c.Limits.time(), Transport: transport}, err
+	return &http.Client{Timeout: c.Limits.timeOfRequest(), Transport: transport}, err
 }
 
 // health returns the state of the daemon in lines for people, after a look at the clock. The error says what an operator must look after, and is nil
@@ -114,7 +116,7 @@ func (d *daemon) health() (string, error) {
 	fmt.Fprintf(&text, "ended: %d, %s\n", present.ended.count, present.ended.digest)
 	fmt.Fprintf(&text, "log of grants: lines %d, failures %d\n", d.granted.written.Load(), d.granted.failed.Load())
 	fmt.Fprintf(&text, "other lines: %d, lost %d\n", d.other.written.Load(), d.other.failed.Load()+d.other.dropped.Load())
-	fmt.Fprintf(&text, "clock: went back %d times\n", d.clock.times.Load())
+	fmt.Fprintf(&text, "clock: went back %d times\n", d.clock.timesBack.Load())
 	for _, each := range present.lists {
 		if each.store != nil {
 			line, fault := each.store.statusLine()

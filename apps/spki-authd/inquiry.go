@@ -1,5 +1,7 @@
 package main
 
+// What the web server asks: an inquiry, which is read from the headers of the web server's own request. A header that is read may be there only once.
+
 import (
 	"crypto/subtle"
 	"errors"
@@ -7,7 +9,7 @@ import (
 	"strings"
 )
 
-// scheme begins the value of `Authorization` in which a client sends its certificates. It is the same in upper and lower case.
+// scheme begins the value of `Authorization` in which a client sends its certificates. It may be in upper or lower case.
 const scheme = "SPKI "
 
 // The most octets of a request's number, or of an address, in the log: what is longer is cut.

@@ -1,5 +1,7 @@
 package main
 
+// A log in memory, which tests give the daemon in place of its files, and read.
+
 import (
 	"bytes"
 	"errors"
@@ -15,6 +17,7 @@ type journal struct {
 	fault error
 }
 
+// errFull is the error of a full disk.
 var errFull = errors.New("no space left")
 
 // grant adds the line of a grant. If `fault` is set, it fails with that, and adds nothing.
@@ -27,7 +30,7 @@ func (j *journal) grant(line []byte) error {
 	return j.fault
 }
 
-// other adds the line of another answer.
+// other adds the line of an answer that is no grant. It never fails.
 func (j *journal) other(line []byte) {
 	j.mutex.Lock()
 	defer j.mutex.Unlock()

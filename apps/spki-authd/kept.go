@@ -1,5 +1,8 @@
 package main
 
+// Chains: sequences of certificates that clients have left with the daemon, for their later requests. A folder has one file for each (folderChains),
+// or a store in PostgreSQL has them (storedChains).
+
 import (
 	"encoding/base64"
 	"errors"
@@ -141,7 +144,7 @@ func openChains(c *config, now time.Time, mayRemove bool) (chainKeeper, error) {
 	case c.Chains.Postgres == nil:
 		return openFolderChains(c.Chains, now, mayRemove)
 	}
-	reader, err := openReader(c.Chains.Postgres, c.Limits.time()/partOfGrant)
+	reader, err := openReader(c.Chains.Postgres, c.Limits.timeOfRequest()/partOfGrant)
 	if err != nil {
 		return nil, err
 	}
@@ -217,6 +220,7 @@ func (f *folderChains) keepInMemory(key string, chain keptChain, now time.Time) 
 	defer f.mutex.Unlock()
 	// (first, so that it is not among those that are returned: its file is now that of the new one)
 	f.forget(keptFile{key, chain.name})
+	// (the caller has tested that there is room)
 	ended, _ := f.roomFor(key, len(chain.text), now)
 	for _, each := range ended {
 		f.forget(each)

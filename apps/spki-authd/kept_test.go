@@ -1,5 +1,10 @@
 package main
 
+// Tests of chains: sequences of certificates that a client leaves with the daemon by a signed PUT, for its later requests. Here a folder has them
+// (folderChains), in a file for each. At a site (newSite) Alice may read below /web/, Bob below /web/docs/ by her certificate, and Carol below
+// /web/docs/a/ by his. Mallory has no right. Status 200 grants, 401 (where certificates may help) and 403 deny, 400 refuses an unclear request, and
+// 503 is a failure of the daemon.
+
 import (
 	"crypto/sha256"
 	"crypto/sha512"
@@ -26,10 +31,10 @@ func newSiteWithChains(t *testing.T) *site {
 	return s
 }
 
-// reopenChains reads the folder of kept certificates, as the daemon does at its start.
+// reopenChains reads the folder of kept certificates, as the daemon does at its start: files that are not needed are removed.
 func (s *site) reopenChains(t *testing.T) {
 	t.Helper()
-	opened, err := openFolderChains(s.config.Chains, s.now(), true)
+	opened, err := openFolderChains(s.config.Chains, s.now(), mayRemove)
 	if err != nil {
 		t.Fatal(err)
 	}
@@ -161,7 +166,7 @@ func TestWhichChainsAreKept(t *testing.T) {
 	tag := prefix("read", "/web/")
 	name := "(4:name" + s.alice.key + "8:builders)"
 	toBob, toName := s.alice.sign(s.toBob), s.alice.signedCertificate(name, tag, "")
-	isBob := s.alice.signedNameCertificate("builders", s.bob.key)
+	definition := s.alice.signedNameCertificate("builders", s.bob.key)
 	forged := s.mallory.sign(s.alice.certificate(s.bob, tag, ""))
 	asAlice := s.mallory.signAs(s.alice, s.alice.certificate(s.bob, tag, ""))
 	digest := sha512.Sum512([]byte(s.bob.key))
@@ -174,8 +179,8 @@ func TestWhichChainsAreKept(t *testing.T) {
 		{"its hash by SHA-512", "", []string{s.alice.signedCertificate("(4:hash6:sha512"+str(string(digest[:]))+")", tag, "")}},
 		{"its hash and an address", "", []string{s.alice.signedCertificate(strings.TrimSuffix(s.bob.hashOfKey(), ")")+"(3:uri1:x))", tag, "")}},
 		{"a key behind fields that look so", "", []string{s.alice.signedCertificate(s.bob.key, tag, "(7:comment(7:subject"+s.mallory.key+")[1:x]1:y)")}},
-		{"a name that is defined", "", []string{toName, isBob}},
-		{"a definition alone", "", []string{isBob}},
+		{"a name that is defined", "", []string{toName, definition}},
+		{"a definition alone", "", []string{definition}},
 		{"a definition of a name of a name", "", []string{
 			s.alice.signedCertificate("(4:name"+s.alice.key+"4:team8:builders)", tag, ""), s.alice.signedNameCertificate("team", s.carol.key),
 			s.carol.signedNameCertificate("builders", s.bob.key)}},
@@ -191,7 +196,7 @@ func TestWhichChainsAreKept(t *testing.T) {
 		{"a name", "is not the key", []string{toName}},
 		{"a name of the issuer", "is not the key", []string{s.alice.signedCertificate("(4:name8:builders)", tag, "")}},
 		{"a name of the key", "is not the key", []string{s.alice.signedCertificate("(4:name"+s.bob.key+"1:x)", tag, "")}},
-		{"a definition before its name", "is not the key", []string{isBob, toName}},
+		{"a definition before its name", "is not the key", []string{definition, toName}},
 		{"a wrong signature", "has no valid signature", []string{asAlice}},
 		{"a wrong one before the last", "has no valid signature", []string{asAlice, toBob}},
 		{"a wrong one behind", "has no valid signature", []string{toBob, asAlice}},
@@ -203,7 +208,8 @@ func TestWhichChainsAreKept(t *testing.T) {
 		{"what is past its end", "past its end", []string{s.alice.sign(s.alice.certificateUntil(s.bob, tag, "2020-01-01_00:00:00"))}},
 		{"no signature", "refused sequence 1 UnsignedCert", []string{s.toBob}},
 	} {
-		s.chains = &folderChains{chains: chains{Folder: t.TempDir(), Each: 2, Keys: 2, Days: 9}, byKey: map[string][]keptChain{}}
+		// (a new folder, so that no row leaves a sequence for the next one)
+		s.chains = newFolderChains(t, chains{Each: 2, Keys: 2})
 		status, reply := s.leaves(t, s.bob, sequence(row.shown...))
 		line, isKept := s.lastLine(t), s.keeps(t, s.bob)
 		if row.reason == "" && (status != 201 || reply != answerKept || !isKept) {
@@ -220,9 +226,7 @@ func TestEndedIsNotKept(t *testing.T) {
 	s := newSiteWithChains(t)
 	bobs, _ := s.sequencesShown()
 	s.config.Ended = writeFile(t, "ended", withLastLine(digestOfText(s.toBob)+" # stolen\n"))
-	if err := s.keeper.reload(s.config, false, s.now()); err != nil {
-		t.Fatal(err)
-	}
+	s.mustReload(t)
 	status, reply := s.leaves(t, s.bob, bobs)
 	if status != 400 || reply != answerRefused || !strings.HasSuffix(s.lastLine(t).Reason, "has ended") || s.keeps(t, s.bob) {
 		t.Errorf("%d, %+v", status, s.lastLine(t))
@@ -230,7 +234,7 @@ func TestEndedIsNotKept(t *testing.T) {
 }
 
 // TestStrangersLeave leaves certificates of keys that a stranger has made. Once there is no room for another key, or for more octets, they are answered by
-// `full`, and no signature is verified. None of them grants anything, and what a request shows itself counts as before.
+// `full`, and no signature is verified. None of them grants anything, and a request that shows certificates is decided by these as before.
 func TestStrangersLeave(t *testing.T) {
 	s := newSiteWithChains(t)
 	s.config.Chains.Keys = 2
@@ -253,16 +257,19 @@ func TestStrangersLeave(t *testing.T) {
 	if s.statusFor(s.bob, "/web/docs/b", bobs) != 200 {
 		t.Error("what a request shows itself does not count")
 	}
+	// (room for nine octets is left)
 	full := &folderChains{chains: *s.config.Chains, byKey: map[string][]keptChain{}, octets: mostLeft - 9}
 	if reply, _ := full.add("key", keptChain{text: "ten octets"}, s.now()); reply != answerFull {
 		t.Error(reply)
 	}
 }
 
-// newFolderChains returns the chainKeeper of a new folder. It keeps each sequence for nine days: at most `each` of a key, and those of at most `keys` keys.
-func newFolderChains(t *testing.T, each, keys int) *folderChains {
+// newFolderChains returns the chainKeeper of a new, empty folder. It keeps each sequence for nine days: at most limits.Each of a key, and those of at
+// most limits.Keys keys.
+func newFolderChains(t *testing.T, limits chains) *folderChains {
 	t.Helper()
-	kept, err := openFolderChains(&chains{Folder: t.TempDir(), Each: each, Keys: keys, Days: 9}, time.Now(), true)
+	limits.Folder, limits.Days = t.TempDir(), 9
+	kept, err := openFolderChains(&limits, time.Now(), mayRemove)
 	if err != nil {
 		t.Fatal(err)
 	}
@@ -277,10 +284,11 @@ func mustAdd(t *testing.T, kept *folderChains, key, text string, now time.Time, 
 	}
 }
 
-// heldBy returns the texts of all files in the folder, sorted, with spaces between them. It reports an error unless memory has the same texts, the count
-// of octets is right, and no limit is exceeded.
-func heldBy(t *testing.T, kept *folderChains) string {
+// keptTexts returns the texts of all files in the folder, sorted, with spaces between them. It reports an error unless memory has the same texts, the
+// count of octets is right, and no limit is exceeded.
+func keptTexts(t *testing.T, kept *folderChains) string {
 	t.Helper()
+	// (the path and the text of each file, by what is in memory, and by the folder)
 	var inMemory, inFiles []string
 	octets := 0
 	for key, all := range kept.byKey {
@@ -295,6 +303,7 @@ func heldBy(t *testing.T, kept *folderChains) string {
 	paths, _ := filepath.Glob(filepath.Join(kept.Folder, "*", "*"))
 	var texts []string
 	for _, path := range paths {
+		// (of a file that cannot be read the text is empty, and differs from that in memory)
 		text, _ := os.ReadFile(path)
 		inFiles, texts = append(inFiles, path+" "+string(text)), append(texts, string(text))
 	}
@@ -309,7 +318,7 @@ func heldBy(t *testing.T, kept *folderChains) string {
 // TestClockAhead has the clock ahead for a while. Meanwhile the sequence of a key does not count, and afterwards it does again. A start with the clock
 // ahead keeps it too, unless by that clock the sequence ended over nine days ago.
 func TestClockAhead(t *testing.T) {
-	kept, now := newFolderChains(t, 1, 2), time.Now()
+	kept, now := newFolderChains(t, chains{Each: 1, Keys: 2}), time.Now()
 	count := func(at time.Time) int {
 		current, _ := kept.currentOf("a", at)
 		return len(current)
@@ -319,28 +328,30 @@ func TestClockAhead(t *testing.T) {
 	if count(ahead) != 0 {
 		t.Error("it counts after its end")
 	}
+	// (there is room for a second key, so this removes nothing)
 	mustAdd(t, kept, "b", "b1", ahead, answerKept)
-	if count(now) != 1 || heldBy(t, kept) != "a1 b1" {
-		t.Error("it is lost: ", heldBy(t, kept))
+	if count(now) != 1 || keptTexts(t, kept) != "a1 b1" {
+		t.Error("it is lost: ", keptTexts(t, kept))
 	}
 	// (the sequences end after nine days: 8 and 10 days before these starts)
 	for _, row := range []struct {
 		days, count int
 		held        string
 	}{{17, 1, "a1 b1"}, {19, 0, ""}} {
-		started, err := openFolderChains(&kept.chains, now.AddDate(0, 0, row.days), true)
+		started, err := openFolderChains(&kept.chains, now.AddDate(0, 0, row.days), mayRemove)
 		if err != nil {
 			t.Fatal(err)
 		}
-		if kept = started; count(now.AddDate(0, 0, row.days)) != 0 || count(now) != row.count || heldBy(t, kept) != row.held {
-			t.Errorf("a start %d days later: %d, %q", row.days, count(now), heldBy(t, kept))
+		if kept = started; count(now.AddDate(0, 0, row.days)) != 0 || count(now) != row.count || keptTexts(t, kept) != row.held {
+			t.Errorf("a start %d days later: %d, %q", row.days, count(now), keptTexts(t, kept))
 		}
 	}
 }
 
-// TestEndedGiveWay has room for two sequences of each of two keys. Ended ones are removed where another one needs their room, and no others.
+// TestEndedGiveWay has room for two sequences of each of two keys. Ended ones are removed where another one needs their room, and no others. A row
+// has the hours since the begin, the key and the text that are added, the answer, and all texts that are kept afterwards.
 func TestEndedGiveWay(t *testing.T) {
-	kept, begun := newFolderChains(t, 2, 2), time.Now()
+	kept, begun := newFolderChains(t, chains{Each: 2, Keys: 2}), time.Now()
 	for _, row := range []struct {
 		hours     int
 		key, text string
@@ -352,7 +363,7 @@ func TestEndedGiveWay(t *testing.T) {
 		{120, "a", "a2", answerKept, "a1 a2 b1"},
 		{215, "a", "a3", answerFull, "a1 a2 b1"},
 		{215, "c", "c1", answerFull, "a1 a2 b1"},
-		// (a1 ends after nine days, which are 216 hours. It alone makes no room for another key)
+		// (a1 ends after nine days, which are 216 hours. That makes no room for another key, since a2 stays)
 		{217, "c", "c1", answerFull, "a1 a2 b1"},
 		{217, "a", "a2", answerKnown, "a1 a2 b1"},
 		{217, "a", "a3", answerKept, "a2 a3 b1"},
@@ -369,7 +380,7 @@ func TestEndedGiveWay(t *testing.T) {
 			t.Errorf("%+v: %q before it is verified", row, refusal)
 		}
 		mustAdd(t, kept, row.key, row.text, now, row.wanted)
-		if held := heldBy(t, kept); held != row.held {
+		if held := keptTexts(t, kept); held != row.held {
 			t.Errorf("%+v: %s", row, held)
 		}
 	}
@@ -377,12 +388,13 @@ func TestEndedGiveWay(t *testing.T) {
 
 // TestEndedOctets has two sequences of four octets each, and room for two octets more. Once they have ended, the first makes room for one of five octets.
 func TestEndedOctets(t *testing.T) {
-	kept, now := newFolderChains(t, 2, 2), time.Now()
+	kept, now := newFolderChains(t, chains{Each: 2, Keys: 2}), time.Now()
 	kept.octets = mostLeft - 10
 	mustAdd(t, kept, "a", "1234", now, answerKept)
 	mustAdd(t, kept, "a", "5678", now.Add(time.Hour), answerKept)
 	mustAdd(t, kept, "b", "12345", now, answerFull)
 	now = now.AddDate(0, 0, 10)
+	// (eleven octets: more than are free without both)
 	mustAdd(t, kept, "b", "12345678901", now, answerFull)
 	mustAdd(t, kept, "b", "12345", now, answerKept)
 	if texts := kept.byKey["a"]; len(texts) != 1 || texts[0].text != "5678" || kept.octets != mostLeft-1 {
@@ -394,7 +406,7 @@ func TestEndedOctets(t *testing.T) {
 // whichever is read first. With mayRemove false its file stays.
 func TestEndedAtStart(t *testing.T) {
 	for _, ended := range []string{"a", "c"} {
-		kept, now := newFolderChains(t, 1, 2), time.Now()
+		kept, now := newFolderChains(t, chains{Each: 1, Keys: 2}), time.Now()
 		mustAdd(t, kept, ended, "ended", now, answerKept)
 		mustAdd(t, kept, "b", "current", now, answerKept)
 		tenDaysAgo := now.AddDate(0, 0, -10)
@@ -411,8 +423,8 @@ func TestEndedAtStart(t *testing.T) {
 			if current, _ := started.currentOf("b", now); len(current) != 1 || (len(files) == 1) != mayRemove {
 				t.Errorf("%s: %v, %v", ended, current, files)
 			}
-			if mayRemove && heldBy(t, started) != "current" {
-				t.Error(ended, heldBy(t, started))
+			if mayRemove && keptTexts(t, started) != "current" {
+				t.Error(ended, keptTexts(t, started))
 			}
 		}
 	}
@@ -421,17 +433,14 @@ func TestEndedAtStart(t *testing.T) {
 // TestEndedMakeRoom keeps the sequence of one key for nine days where there is room for no other one. Once it has ended, another key's is kept in its
 // place. A row has the key, the days since the row before, and the answer.
 func TestEndedMakeRoom(t *testing.T) {
-	kept := &folderChains{chains: chains{Folder: t.TempDir(), Each: 1, Keys: 1, Days: 9}, byKey: map[string][]keptChain{}}
-	now := time.Now()
-	for place, row := range []struct {
+	kept, now := newFolderChains(t, chains{Each: 1, Keys: 1}), time.Now()
+	for _, row := range []struct {
 		key    string
 		later  int
 		wanted answer
 	}{{"a", 0, answerKept}, {"b", 8, answerFull}, {"b", 2, answerKept}} {
 		now = now.AddDate(0, 0, row.later)
-		if reply, err := kept.add(row.key, kept.chainOf(sequence(row.key), now), now); reply != row.wanted || err != nil {
-			t.Errorf("row %d: %s, %v", place, reply, err)
-		}
+		mustAdd(t, kept, row.key, sequence(row.key), now, row.wanted)
 	}
 	if files, _ := filepath.Glob(filepath.Join(kept.Folder, "*", "*")); len(files) != 1 {
 		t.Error(files)
@@ -468,7 +477,7 @@ func (s *site) putAttacks(bobs, other string) map[string]func(*http.Request) {
 	return map[string]func(*http.Request){
 		"another body":   body(other),
 		"an empty body":  body(""),
-		"half a body":    func(request *http.Request) { body(bobs[:99])(request); request.ContentLength = int64(len(bobs)) },
+		"half a body":    func(request *http.Request) { body(bobs[:len(bobs)/2])(request); request.ContentLength = int64(len(bobs)) },
 		"a longer body":  body(bobs + " "),
 		"no length":      func(request *http.Request) { request.ContentLength = -1 },
 		"another digest": set("Content-Digest", httpsig.ContentDigest([]byte(other))),
@@ -527,16 +536,17 @@ func TestPutRefusals(t *testing.T) {
 	if response := s.respond(s.bob.putRequest(t, target+"?GET=/web/docs/b", bobs)); response.StatusCode != 400 || s.keeps(t, s.bob) {
 		t.Error("a query: ", response.StatusCode, s.lastLine(t))
 	}
-	once := s.bob.putRequest(t, target, bobs)
+	request := s.bob.putRequest(t, target, bobs)
 	for name, value := range map[string]string{"X-Original-Method": "GET", "X-Original-Uri": "/web/x", "X-Original-Host": "evil.example",
 		"X-Client-Cert": s.mallory.escaped()} {
-		once.Header.Set(name, value)
+		request.Header.Set(name, value)
 	}
-	if response := s.respond(once); response.StatusCode != 201 || s.lastLine(t).Key != hexDigest([]byte(s.bob.key)) || s.lastLine(t).Proof != bySignature {
+	if response := s.respond(request); response.StatusCode != 201 || s.lastLine(t).Key != hexDigest([]byte(s.bob.key)) || s.lastLine(t).Proof != bySignature {
 		t.Error("other headers: ", response.StatusCode, s.lastLine(t))
 	}
-	once.Body = io.NopCloser(strings.NewReader(bobs))
-	if response := s.respond(once); response.StatusCode != 400 || !strings.HasSuffix(s.lastLine(t).Reason, "nonce-seen") {
+	// (its body was read: it needs another one to be sent again)
+	request.Body = io.NopCloser(strings.NewReader(bobs))
+	if response := s.respond(request); response.StatusCode != 400 || !strings.HasSuffix(s.lastLine(t).Reason, "nonce-seen") {
 		t.Error("sent again: ", response.StatusCode, s.lastLine(t))
 	}
 }
@@ -553,10 +563,10 @@ func TestKeptChainsEnd(t *testing.T) {
 			t.Error(reply)
 		}
 	}
-	// (days, and how many sequences are kept then: one for its ten days, and one for the usual ninety)
+	// (days, and how many sequences are kept then: one for its ten days, and one for the usual ninety. Nothing is removed, as by -test)
 	for _, row := range [][2]int{{9, 2}, {11, 1}, {89, 1}, {91, 0}} {
 		now := begun.AddDate(0, 0, row[0])
-		opened, err := openFolderChains(s.config.Chains, now, false)
+		opened, err := openFolderChains(s.config.Chains, now, !mayRemove)
 		if err != nil {
 			t.Fatal(err)
 		}
@@ -564,20 +574,19 @@ func TestKeptChainsEnd(t *testing.T) {
 			t.Error(row, current)
 		}
 	}
-	// (only the daemon removes a file: -test reads them alone)
 	if files := s.filesOfChains(); len(files) != 2 {
 		t.Error(files)
 	}
 	// (days, and how many files a start leaves then: each stays for ninety days after its end)
 	for _, row := range [][2]int{{99, 2}, {101, 1}} {
-		if _, err := openFolderChains(s.config.Chains, begun.AddDate(0, 0, row[0]), true); err != nil || len(s.filesOfChains()) != row[1] {
+		if _, err := openFolderChains(s.config.Chains, begun.AddDate(0, 0, row[0]), mayRemove); err != nil || len(s.filesOfChains()) != row[1] {
 			t.Error(row, err, s.filesOfChains())
 		}
 	}
 }
 
-// TestEndedFiles keeps one sequence, the same a year later, when it has ended, and the same for another key, which takes the only room. currentOf touches
-// no file, and after each `add` there is one file, that of the key.
+// TestEndedFiles keeps one sequence, the same a year later, when it has ended, and after another year the same for another key, which takes the only
+// room. currentOf touches no file, and after each `add` there is one file, that of the key.
 func TestEndedFiles(t *testing.T) {
 	s := newSiteWithChains(t)
 	begun, kept := time.Now(), s.chains.(*folderChains)
@@ -655,8 +664,9 @@ func TestForeignFiles(t *testing.T) {
 	if err := os.Mkdir(folder, 0o700); err != nil {
 		t.Fatal(err)
 	}
-	for name, text := range map[string]string{"x": bobs, hexDigest([]byte(bobs)): bobs[:len(bobs)-9], hexDigest([]byte(bobs)) + ".new": bobs,
-		hexDigest([]byte(strings.Repeat("x", 9000))): strings.Repeat("x", 9000)} {
+	long := strings.Repeat("x", mostShownOctets+1)
+	for name, text := range map[string]string{"x": bobs, hexDigest([]byte(bobs)): bobs[:len(bobs)-9], hexDigest([]byte(bobs)) + partSuffix: bobs,
+		hexDigest([]byte(long)): long} {
 		if err := os.WriteFile(filepath.Join(folder, name), []byte(text), 0o600); err != nil {
 			t.Fatal(err)
 		}
@@ -670,7 +680,7 @@ func TestForeignFiles(t *testing.T) {
 		t.Error(files)
 	}
 	hourAgo := s.now().Add(-time.Hour)
-	if err := os.Chtimes(filepath.Join(folder, hexDigest([]byte(bobs))+".new"), hourAgo, hourAgo); err != nil {
+	if err := os.Chtimes(filepath.Join(folder, hexDigest([]byte(bobs))+partSuffix), hourAgo, hourAgo); err != nil {
 		t.Fatal(err)
 	}
 	if s.reopenChains(t); len(s.filesOfChains()) != 3 {
@@ -679,21 +689,22 @@ func TestForeignFiles(t *testing.T) {
 	if err := os.Chmod(s.config.Chains.Folder, 0o777); err != nil {
 		t.Fatal(err)
 	}
-	if _, err := openFolderChains(s.config.Chains, s.now(), false); err == nil {
+	if _, err := openFolderChains(s.config.Chains, s.now(), !mayRemove); err == nil {
 		t.Error("others may write the folder")
 	}
 }
 
 // TestChainSettings checks settings of `chains`, each with one thing wrong, and right ones, which need signed requests.
 func TestChainSettings(t *testing.T) {
+	const isSigned = true
 	ofStore := &storeOf{Host: "/run", Database: "d", User: "u"}
 	for _, wrong := range []chains{{Folder: "x"}, {Folder: "/x", Days: -1}, {}, {Folder: "/x", Path: "x"}, {Folder: "/x", Path: "/a%2fb"},
 		{Folder: "/x", Postgres: ofStore}, {Postgres: &storeOf{}}} {
-		if wrong.check(true) == nil {
+		if wrong.check(isSigned) == nil {
 			t.Error(wrong)
 		}
 	}
-	if (&chains{Folder: "/x"}).check(false) == nil || (&chains{Folder: "/x"}).check(true) != nil {
+	if (&chains{Folder: "/x"}).check(!isSigned) == nil || (&chains{Folder: "/x"}).check(isSigned) != nil {
 		t.Error("chains need signatures, and no more than a folder")
 	}
 }
@@ -701,10 +712,7 @@ func TestChainSettings(t *testing.T) {
 // TestDiskThatHangs leaves a sequence where the disk does not answer: its file is a FIFO that nobody reads. Meanwhile currentOf returns what is kept
 // for another key, without waiting.
 func TestDiskThatHangs(t *testing.T) {
-	kept, err := openFolderChains(&chains{Folder: t.TempDir(), Days: 1, Each: 1, Keys: 9}, time.Now(), true)
-	if err != nil {
-		t.Fatal(err)
-	}
+	kept := newFolderChains(t, chains{Each: 1, Keys: 9})
 	chain := kept.chainOf(sequence(), time.Now())
 	path := filepath.Join(kept.Folder, "a", chain.name+partSuffix)
 	if err := os.Mkdir(filepath.Dir(path), 0o700); err != nil {

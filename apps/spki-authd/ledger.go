@@ -1,5 +1,7 @@
 package main
 
+// The ledger: the file that gets a line before each grant. Its owner may rename it while the daemon runs, and then has it opened again.
+
 import (
 	"errors"
 	"fmt"

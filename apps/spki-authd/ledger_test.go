@@ -1,5 +1,8 @@
 package main
 
+// Tests of the ledger, the file with a line for each grant: no request is granted whose line is not in it. A line in it is whole or absent, also
+// where the disk is full. `syncs` says when it calls fsync: syncNever, syncSeconds (by `beat`, each second) or syncEach (for each write).
+
 import (
 	"fmt"
 	"os"
@@ -81,7 +84,7 @@ func TestFullDisk(t *testing.T) {
 		if err := ledger.write([]byte("one\n")); err != nil {
 			t.Fatal(err)
 		}
-		disk.room, disk.truncateFails = 2, truncateFails
+		disk.room, disk.truncateFails = len("tw"), truncateFails
 		if ledger.write([]byte("two\n")) == nil {
 			t.Error("a cut line is written")
 		}
@@ -135,7 +138,7 @@ func TestFullDiskOfMany(t *testing.T) {
 	all.Wait()
 	content, err := os.ReadFile(ledger.path)
 	lines := strings.SplitAfter(string(content), "\n")
-	// (16*50 lines would be all: then no write has failed)
+	// (if all 16*50 lines were there, no write had failed)
 	if err != nil || len(lines)-1 != len(wanted) || len(wanted) == 0 || len(wanted) == 16*50 {
 		t.Errorf("%d lines, wanted %d, %v", len(lines)-1, len(wanted), err)
 	}
@@ -225,6 +228,7 @@ func TestReopened(t *testing.T) {
 		t.Fatal(err)
 	}
 	write("two\n")
+	// (the second time there is nothing to do)
 	for turn := 0; turn < 2; turn++ {
 		if err := ledger.reopen(); err != nil {
 			t.Error(err)
@@ -258,13 +262,16 @@ func TestLastSync(t *testing.T) {
 	for _, syncs := range []string{syncNever, syncSeconds, syncEach} {
 		for _, isOver := range []bool{false, true} {
 			ledger, disk := openFailing(t, syncs, "")
+			// (whether the error must say that lines may be lost)
 			isLost := syncs == syncSeconds || syncs == syncEach && !isOver
-			mustTell := func(step string, err error) {
+			// (reports an error unless `err`, that of a step, says that, or is nil where none may be lost)
+			checkError := func(step string, err error) {
 				t.Helper()
 				if (err != nil) != isLost || err != nil && !strings.Contains(err.Error(), "may not be on the disk") {
 					t.Errorf("%s, %v: %s: %v", syncs, isOver, step, err)
 				}
 			}
+			// (writes a line. Then fsync fails during a `beat`, and unless isOver also after it)
 			writeUnsynced := func(line string) {
 				if err := ledger.write([]byte(line)); err != nil {
 					t.Error(err)
@@ -277,12 +284,12 @@ func TestLastSync(t *testing.T) {
 			if err := os.Rename(ledger.path, ledger.path+".1"); err != nil {
 				t.Fatal(err)
 			}
-			mustTell("reopened", ledger.reopen())
+			checkError("reopened", ledger.reopen())
 			disk = &failingFile{File: ledger.file.(*os.File), room: -1}
 			ledger.file = disk
 			writeUnsynced("two\n")
 			ledger.mustHave(t, "two\n")
-			mustTell("closed", ledger.close())
+			checkError("closed", ledger.close())
 		}
 	}
 }

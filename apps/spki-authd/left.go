@@ -1,5 +1,7 @@
 package main
 
+// How a client leaves certificates with the daemon, by PUT.
+
 import (
 	"bytes"
 	"encoding/base64"

@@ -1,5 +1,7 @@
 package main
 
+// The entrance: the Unix socket, or the port with TLS, at which the web server asks.
+
 import (
 	"errors"
 	"fmt"
@@ -68,6 +70,7 @@ func (c *config) checkMode(mode fs.FileMode) error {
 
 // modeOf reads the mode of a socket in octal digits, such as 0660. It fails if it is no such number, or has other rights than to read and to write.
 func modeOf(text string) (fs.FileMode, error) {
+	// (in base 8, and at most the 12 bits of a mode)
 	mode, err := strconv.ParseUint(text, 8, 12)
 	if err == nil && mode&^0o666 != 0 {
 		err = fs.ErrInvalid

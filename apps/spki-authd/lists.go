@@ -1,5 +1,7 @@
 package main
 
+// The access lists of the configuration, and which of them decides a request: the first whose scope, a host and a prefix of paths, fits it.
+
 import (
 	"errors"
 	"fmt"

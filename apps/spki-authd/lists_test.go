@@ -1,5 +1,8 @@
 package main
 
+// Tests of hosts, and of configurations with several access lists or rules, of which the first decides whose host and prefix fit a request. Status
+// 200 grants, 401 (where certificates may help) and 403 deny, and 400 refuses an unclear request.
+
 import (
 	"strings"
 	"testing"
@@ -17,7 +20,7 @@ func TestHosts(t *testing.T) {
 	}
 	for _, text := range []string{
 		"", ":443", "a.example.", "a..example", ".example", "a example", "a/b", "a%2eb", "a@b", "a:b", "a:443:443", "::1", "[::1", "[192.0.2.1]", "[x]", "é.example",
-		"a.example:123456", "a,b", "a\x00", strings.Repeat("a", 254),
+		"a.example:123456", "a,b", "a\x00", strings.Repeat("a", mostHost+1),
 	} {
 		if host, err := hostOf(text); err == nil {
 			t.Errorf("%q: %q", text, host)
@@ -39,14 +42,12 @@ func twoSites(t *testing.T) *site {
 	if err := s.config.checkLists(); err != nil {
 		t.Fatal(err)
 	}
-	if err := s.keeper.reload(s.config, false, s.now()); err != nil {
-		t.Fatal(err)
-	}
+	s.mustReload(t)
 	return s
 }
 
-// TestListsOfHosts asks each host with each right, twice, since a valid sequence is kept then. No right on one of them counts on the other.
-// `hasList` says whether a list decides, which the log then names.
+// TestListsOfHosts asks each host with each right, twice: the second time by what the daemon keeps of a valid sequence. No right on one host counts
+// on the other. `hasList` says whether a list decides, which the log then names.
 func TestListsOfHosts(t *testing.T) {
 	s := twoSites(t)
 	toMallory := s.alice.sign(s.alice.certificate(s.mallory, prefix("read", "/web/"), ""))

@@ -1,5 +1,7 @@
 package main
 
+// The line of the log for a record, as JSON.
+
 import (
 	"encoding/json"
 	"strconv"
@@ -17,29 +19,29 @@ var rooms = sync.Pool{New: func() any {
 }}
 
 // line returns the record as a line of JSON with its line feed, in `room`, which is overwritten, or in a new buffer if `room` is too small. The line has
-// the octets that encoding/json would write, but encoding/json takes four times as long. The last argument of addText and addNumber says whether an
-// empty field is written too.
+// the octets that encoding/json would write, but encoding/json takes four times as long. An optional field is left out if it is empty.
 func (r *record) line(room []byte) []byte {
+	const needed, optional = true, false
 	line := fields(room[:0])
-	line.addText("time", r.Time, true)
-	line.addText("id", r.ID, false)
-	line.addText("host", r.Host, false)
-	line.addText("address", r.Address, false)
-	line.addText("answer", string(r.Answer), true)
-	line.addNumber("status", int64(r.Status), true)
-	line.addText("key", r.Key, false)
-	line.addText("proof", r.Proof, false)
-	line.addText("kept", r.Kept, false)
+	line.addText("time", r.Time, needed)
+	line.addText("id", r.ID, optional)
+	line.addText("host", r.Host, optional)
+	line.addText("address", r.Address, optional)
+	line.addText("answer", string(r.Answer), needed)
+	line.addNumber("status", int64(r.Status), needed)
+	line.addText("key", r.Key, optional)
+	line.addText("proof", r.Proof, optional)
+	line.addText("kept", r.Kept, optional)
 	line.addTexts("request", r.Request)
-	line.addNumber("entry", int64(r.Entry), false)
+	line.addNumber("entry", int64(r.Entry), optional)
 	line.addTexts("certificates", r.Certificates)
-	line.addNumber("cached", int64(r.Cached), false)
-	line.addNumber("unverified", int64(r.Unverified), false)
-	line.addText("list", r.List, false)
-	line.addText("reason", r.Reason, false)
-	line.addText("reasons", r.Reasons, false)
-	line.addText("target", r.Target, false)
-	line.addNumber("microseconds", r.Microseconds, true)
+	line.addNumber("cached", int64(r.Cached), optional)
+	line.addNumber("unverified", int64(r.Unverified), optional)
+	line.addText("list", r.List, optional)
+	line.addText("reason", r.Reason, optional)
+	line.addText("reasons", r.Reasons, optional)
+	line.addText("target", r.Target, optional)
+	line.addNumber("microseconds", r.Microseconds, needed)
 	return append(line, "}\n"...)
 }
 

@@ -1,5 +1,9 @@
 package main
 
+// Tests of the log, which gets one line of JSON for each answer. A request is granted only once its line is written. At a site (newSite) Alice may
+// read below /web/, Bob below /web/docs/ by her certificate, and Carol below /web/docs/a/ by his. Mallory has no right. Status 200 grants, 401 (where
+// certificates may help) and 403 deny, 400 refuses an unclear request, and 503 is a failure of the daemon.
+
 import (
 	"encoding/json"
 	"strings"
@@ -49,13 +53,13 @@ func TestLogThatCannotBeWritten(t *testing.T) {
 	}
 }
 
-// TestLogThatHangs asks while a write to the log of grants does not return: what would be granted is answered by 503, and a denial as usual. The writer
-// waits for a twentieth of the time of a request, so that the test is short.
+// TestLogThatHangs asks while a write to the log of grants does not return: what would be granted is answered by 503, and a denial still by 401. The
+// writer waits for a twentieth of the time of a request, so that the test is short.
 func TestLogThatHangs(t *testing.T) {
 	s := serveHere(t, "")
 	released := make(chan struct{})
 	defer close(released)
-	s.logGrant = newWriter(&hangingSink{released: released}, s.config.Limits.time()/20, nil).write
+	s.logGrant = newWriter(&hangingSink{released: released}, s.config.Limits.timeOfRequest()/20, nil).write
 	for turn := 0; turn < 2; turn++ {
 		if status := s.get(t, "/web/x"); status != 503 {
 			t.Errorf("%d", status)
@@ -66,8 +70,8 @@ func TestLogThatHangs(t *testing.T) {
 	}
 }
 
-// TestNumbersOfRequests asks with numbers in X-Request-Id, and compares what the log has of them: a long one is cut, and one with a line feed or NUL is
-// refused and left out. Of a request that is refused for its path the log has it too.
+// TestNumbersOfRequests asks with numbers in X-Request-Id, and compares what the log has of them: one of over mostID octets is cut, and one with a
+// line feed or NUL is refused and left out. The log also has the number of a request that is refused for its path.
 func TestNumbersOfRequests(t *testing.T) {
 	s := newSite(t, "")
 	// (`alice[:6:6]`, all its six texts without room behind them, has append make a copy)

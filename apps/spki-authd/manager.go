@@ -1,5 +1,7 @@
 package main
 
+// What the daemon tells the service manager, systemd, and the socket that it may get from it.
+
 import (
 	"fmt"
 	"io/fs"

@@ -1,5 +1,7 @@
 package main
 
+// The path of a request. One that two servers could read in two ways is refused.
+
 import (
 	"errors"
 	"strings"

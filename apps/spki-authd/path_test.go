@@ -1,10 +1,15 @@
 package main
 
+// Tests of how the path of a request's target is decoded. A target that two servers could read in two ways is refused.
+
 import (
 	"net/url"
 	"strings"
 	"testing"
 )
+
+// mostPath is the most octets of a path in these tests.
+const mostPath = 4096
 
 // TestPaths reads targets that are clear, and compares the decoded paths.
 func TestPaths(t *testing.T) {
@@ -13,7 +18,7 @@ func TestPaths(t *testing.T) {
 		"/a%20b": "/a b", "/A": "/A", "/a.b": "/a.b", "/.a": "/.a", "/..a": "/..a", "/a:b@c,d=e&f!g$h'i(j)*k+l": "/a:b@c,d=e&f!g$h'i(j)*k+l",
 		"/%22%3c%3E%5B%5d%5E%60%7b%7C%7d": "/\"<>[]^`{|}", "/a%2e%2Eb": "/a..b",
 	} {
-		if path, err := pathOf(target, 4096); err != nil || path != wanted {
+		if path, err := pathOf(target, mostPath); err != nil || path != wanted {
 			t.Errorf("%q: %q, %v; wanted %q", target, path, err, wanted)
 		}
 	}
@@ -29,19 +34,20 @@ func TestUnclearPaths(t *testing.T) {
 		"/a.", "/a./b", "/a..", "/a/b.", "/...", "/a%2e", "/a%20", "/a%20/b", "/%20", "/\xc3\xa9", "/%C3%A9", "/%65%CC%81", "/%c0%ae%c0%ae/a",
 		"/%c0%af", "/%ef%bc%8f", "/%e2%80%ae", "/%E2%80%A4%E2%80%A4/", "/a\xff", "/%ff", "/a%0", "/a%80", "/a?\v", "/a?b c",
 	} {
-		if path, err := pathOf(target, 4096); err == nil {
+		if path, err := pathOf(target, mostPath); err == nil {
 			t.Errorf("%q is read as %q", target, path)
 		}
 	}
 }
 
-// TestLongPaths reads a path of as many octets as may be, with a query that does not count, and one octet more.
+// TestLongPaths reads a path of as many octets as are allowed, with a query that does not count, and one of one octet more, which is refused.
 func TestLongPaths(t *testing.T) {
-	long := "/" + strings.Repeat("a", 99)
-	if _, err := pathOf(long+"?"+long, 100); err != nil {
+	const most = 100
+	long := "/" + strings.Repeat("a", most-1)
+	if _, err := pathOf(long+"?"+long, most); err != nil {
 		t.Error(err)
 	}
-	if _, err := pathOf(long+"a", 100); err == nil {
+	if _, err := pathOf(long+"a", most); err == nil {
 		t.Error("a path over the limit is read")
 	}
 }
@@ -52,7 +58,7 @@ func FuzzPath(f *testing.F) {
 		f.Add(seed)
 	}
 	f.Fuzz(func(t *testing.T, target string) {
-		path, err := pathOf(target, 4096)
+		path, err := pathOf(target, mostPath)
 		if err != nil {
 			return
 		}
@@ -68,8 +74,9 @@ func FuzzPath(f *testing.F) {
 		if strings.ContainsAny(path, "\x00\\%;?#") || strings.Contains(path, "//") {
 			t.Errorf("%q is %q", target, path)
 		}
+		// (a character may be escaped by three octets)
 		escaped := (&url.URL{Path: path}).EscapedPath()
-		if again, err := pathOf(escaped, 4*4096); err != nil || again != path {
+		if again, err := pathOf(escaped, 3*mostPath); err != nil || again != path {
 			t.Errorf("%q is %q, and escaped again %q: %v", target, path, again, err)
 		}
 	})

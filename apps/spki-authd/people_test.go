@@ -1,5 +1,8 @@
 package main
 
+// The people of the tests: each has a key and a certificate for TLS. What they write, such as certificates and tags, is text in SPKI's canonical
+// form.
+
 import (
 	"crypto"
 	"crypto/ed25519"
@@ -59,17 +62,18 @@ func (p person) pem() string {
 	return string(pem.EncodeToMemory(&pem.Block{Type: "CERTIFICATE", Bytes: p.der}))
 }
 
-// escaped returns the certificate as nginx passes it on.
+// escaped returns the certificate as nginx passes it on: in PEM, with %XX for special characters. nginx writes a space as %20, and QueryEscape as
+// `+`.
 func (p person) escaped() string {
 	return strings.ReplaceAll(url.QueryEscape(p.pem()), "+", "%20")
 }
 
-// inBraces returns the key in transport form.
+// inBraces returns the key in transport form: `{BASE64}`.
 func (p person) inBraces() string {
 	return "{" + base64.StdEncoding.EncodeToString([]byte(p.key)) + "}"
 }
 
-// str returns a string in canonical form, as 3:abc.
+// str returns a string in canonical form: `abc` as `3:abc`.
 func str(octets string) string {
 	return fmt.Sprintf("%d:%s", len(octets), octets)
 }
@@ -91,6 +95,7 @@ func (p person) certificateUntil(to person, tag, end string) string {
 func (p person) sign(certificate string) string {
 	digest := sha256.Sum256([]byte(certificate))
 	octets := ed25519.Sign(p.private, []byte(certificate))
+	// (the halves of a signature by Ed25519 are called r and s)
 	value := "(7:sig-val(5:eddsa(1:r" + str(string(octets[:32])) + ")(1:s" + str(string(octets[32:])) + ")))"
 	return certificate + "(9:signature(4:hash6:sha256" + str(string(digest[:])) + ")" + p.key + value + ")"
 }
@@ -134,7 +139,7 @@ func withLastLine(lines string) string {
 // propagates is the field of a certificate or an entry that lets the subject delegate.
 const propagates = "(9:propagate)"
 
-// writeFile writes a file in a folder of its own, and returns its path.
+// writeFile writes a file in a new folder, and returns its path. Both are removed when the test ends.
 func writeFile(t testing.TB, name, text string) string {
 	t.Helper()
 	path := filepath.Join(t.TempDir(), name)

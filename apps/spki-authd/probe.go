@@ -1,5 +1,7 @@
 package main
 
+// The command -probe, which asks a finished site for what it must deny. probe_asker.go has the requests, and how they are sent.
+
 import (
 	"errors"
 	"fmt"
@@ -10,8 +12,8 @@ import (
 	"strings"
 )
 
-// A probe sends a finished site requests that it must deny, and counts the answers. Each request is for a path of its own that is drawn by chance: so no
-// file is read, changed or removed.
+// A probe sends a finished site requests that it must deny, and counts the answers. Each request is for a path of its own that is drawn at random: so
+// no file is read, changed or removed.
 type probe struct {
 	base *url.URL
 	// Whether the operator has stopped the daemon, so that the web server can grant only by a hole. Then at least one answer must be 5xx.

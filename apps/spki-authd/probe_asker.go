@@ -1,5 +1,8 @@
 package main
 
+// The requests of -probe, and how they are sent. An asker sends them by one protocol, with a TLS certificate or without one. A try is one of the
+// requests.
+
 import (
 	"crypto/ecdsa"
 	"crypto/elliptic"
@@ -17,7 +20,7 @@ import (
 	"time"
 )
 
-// A try is a request that must be denied. `{}` in its path is a name that is drawn by chance, and an empty path is one `{}`.
+// A try is a request that must be denied. `{}` in its path is a name that is drawn at random, and an empty path is one `{}`.
 type try struct {
 	method, path, body string
 	// Further headers, by their names.

@@ -1,5 +1,8 @@
 package main
 
+// Tests of -probe, which sends a site requests that it must deny, and says what it grants. A hole here is a set of requests that the site does not
+// deny, by mistake. Exit status statusDone says that nothing is granted, and statusRefused that something is, or that nothing is shown.
+
 import (
 	"bytes"
 	"crypto/tls"
@@ -13,7 +16,7 @@ import (
 )
 
 // probeHandler runs -probe on a site that a handler answers, and returns the exit status, what was printed, and the paths that were asked for.
-// `words` are more words of the command line.
+// `words` are more words of the command line. The pause before a request is sent again after a 429, timeAgain, is short meanwhile.
 func probeHandler(t *testing.T, handler func(http.ResponseWriter, *http.Request), words ...string) (status int, printed string, paths []string) {
 	t.Helper()
 	var mutex sync.Mutex
@@ -27,9 +30,10 @@ func probeHandler(t *testing.T, handler func(http.ResponseWriter, *http.Request)
 	server.TLS = &tls.Config{ClientAuth: tls.RequestClientCert}
 	server.StartTLS()
 	defer server.Close()
+	usualTime := timeAgain
 	rootsOfSite, timeAgain = x509.NewCertPool(), time.Millisecond
 	rootsOfSite.AddCert(server.Certificate())
-	defer func() { rootsOfSite, timeAgain = nil, 200*time.Millisecond }()
+	defer func() { rootsOfSite, timeAgain = nil, usualTime }()
 	var out, messages bytes.Buffer
 	status = run(append([]string{"-probe", server.URL + "/files/"}, words...), &out, &messages)
 	return status, out.String() + messages.String(), paths
@@ -121,7 +125,7 @@ func TestProbe(t *testing.T) {
 	}
 }
 
-// TestProbePaths compares the paths that are asked for: none is asked for twice, and each is drawn by chance. So is the second path of COPY and MOVE.
+// TestProbePaths compares the paths that are asked for: none is asked for twice, and each is drawn at random. So is the second path of COPY and MOVE.
 func TestProbePaths(t *testing.T) {
 	seconds := map[string]bool{}
 	_, _, paths := probeHandler(t, func(answer http.ResponseWriter, request *http.Request) {
@@ -199,7 +203,8 @@ func TestProbeOfDaemonThatStops(t *testing.T) {
 	}
 }
 
-// TestProbeWords probes what is no address of a folder, and a port at which nobody listens, and gives -stopped without -probe. The status says what is wrong.
+// TestProbeWords probes what is no address of a folder, and port 1, at which nobody listens, and gives -stopped without -probe: each is an error.
+// Only the last one is one of the command line, with another status.
 func TestProbeWords(t *testing.T) {
 	for _, words := range [][]string{{"-probe", "files"}, {"-probe", "ftp://localhost/"}, {"-probe", "https://u:p@localhost/"},
 		{"-probe", "https://localhost/?x"}, {"-probe", "https://localhost/?"}, {"-probe", "https:///x"}, {"-probe", "https://localhost/%2F/"}} {

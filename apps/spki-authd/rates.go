@@ -1,5 +1,7 @@
 package main
 
+// How often a client may ask: a rate for each key and one for each address.
+
 import (
 	"net/netip"
 	"sync"

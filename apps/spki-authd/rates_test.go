@@ -1,5 +1,8 @@
 package main
 
+// Tests of how often a client may ask (rateLimiter), and of the clock. With a rate of so many requests a second, a client may make twice as many at
+// once after a pause of two seconds (savedSeconds), and at first. Status 429 says that it asks too often.
+
 import (
 	"fmt"
 	"net/http"
@@ -41,7 +44,8 @@ func TestRates(t *testing.T) {
 	}
 }
 
-// TestRatesAreBounded asks from more addresses than are remembered. The address `a` asks all the time: it is not forgotten, and so gets two requests in all.
+// TestRatesAreBounded asks from more addresses than are remembered, all at one moment. The address `a` asks again and again: it is not forgotten, and
+// so gets two requests in all.
 func TestRatesAreBounded(t *testing.T) {
 	limiter, now, allowed := newRateLimiter(1), time.Unix(1_000_000, 0), 0
 	for number := 0; number < 3*mostBuckets; number++ {
@@ -133,8 +137,8 @@ func TestClock(t *testing.T) {
 			t.Errorf("%+v", row)
 		}
 	}
-	if watched.times.Load() != 1 {
-		t.Errorf("%d times", watched.times.Load())
+	if watched.timesBack.Load() != 1 {
+		t.Errorf("%d times", watched.timesBack.Load())
 	}
 }
 
@@ -150,12 +154,12 @@ func TestSlowRequests(t *testing.T) {
 		return nil
 	}
 	s.askAs(s.alice, "GET", "/web/x", "")
-	if backs := s.clock.times.Load(); backs != 0 {
+	if backs := s.clock.timesBack.Load(); backs != 0 {
 		t.Errorf("the clock went back %d times", backs)
 	}
 }
 
-// TestClockIsWatched sets the clock back under a daemon, which says so once.
+// TestClockIsWatched sets the clock of a daemon back once. The daemon, which looks at it five times, writes one event.
 func TestClockIsWatched(t *testing.T) {
 	s := newSite(t, "")
 	at := time.Now()

@@ -1,5 +1,7 @@
 package main
 
+// The map of a cache: it keeps what was asked for most recently.
+
 import "sync"
 
 // A recentMap keeps the values that were asked for most recently, up to twice `half`. It has two halves: if the young one is full, the old one is dropped

@@ -1,5 +1,7 @@
 package main
 
+// A record: the answer to a request, its HTTP response, and what its line in the log has.
+
 import (
 	"net/http"
 	"strconv"
@@ -54,9 +56,9 @@ type record struct {
 	numbers []int
 }
 
-// number returns the number of an entry as the log has it, by its place in the guard, from 1. Where entries are in a store, that is the number in the
+// entryNumber returns the number of an entry as the log has it, by its place in the guard, from 1. Where entries are in a store, that is the number in the
 // store, and otherwise the place itself. 0, which is no entry, stays 0.
-func (r *record) number(place int) int {
+func (r *record) entryNumber(place int) int {
 	if place > 0 && place <= len(r.numbers) {
 		return r.numbers[place-1]
 	}
@@ -122,6 +124,7 @@ func (r *record) response(room []byte, now time.Time, isLast bool) []byte {
 	}
 	if r.Entry > 0 {
 		header("X-Spki-Entry", "")
+		// (the number is appended without a string of its own, which would take memory)
 		text = strconv.AppendInt(text, int64(r.Entry), 10)
 	}
 	if r.Answer == answerRefused {

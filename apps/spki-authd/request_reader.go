@@ -1,5 +1,7 @@
 package main
 
+// How requests are read from a connection, by net/http.
+
 import (
 	"bufio"
 	"bytes"
@@ -61,6 +63,7 @@ func (r *requestReader) peekLines() (isWhole, isClear bool, err error) {
 	begin := 0
 	isClear = true
 	for {
+		// (as many octets as are in the buffer: this cannot fail)
 		text, _ := r.input.Peek(r.input.Buffered())
 		for end := bytes.IndexByte(text[begin:], '\n'); end >= 0; end = bytes.IndexByte(text[begin:], '\n') {
 			line := text[begin : begin+end+1]

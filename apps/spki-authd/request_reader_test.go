@@ -1,5 +1,7 @@
 package main
 
+// Tests of how the requests of a connection are read: by net/http from the reader's buffer, or from a copy of the lines where they do not fit in it.
+
 import (
 	"fmt"
 	"io"
@@ -8,8 +10,8 @@ import (
 	"testing/iotest"
 )
 
-// readAll reads requests that come one after the other. It returns a text for each: its method, its header X-Last, its body and the error of reading that,
-// or <nil>. The last text is the error after them.
+// readAll reads requests that come one after the other. It returns a text for each: its method, its header X-Last, its body, and the error of reading
+// that or <nil>, with a space between them. The last text is the error after them.
 func readAll(from io.Reader) (read []string) {
 	reader := newRequestReader(from)
 	for {
@@ -22,8 +24,9 @@ func readAll(from io.Reader) (read []string) {
 	}
 }
 
-// TestRequestReader reads requests whose lines fit in the buffer, and the same with many more lines or a longer one in the place of %s. They are read
-// alike, whole and in pieces. `wanted` has what readAll returns, joined by commas. A request behind an empty line is not read.
+// TestRequestReader reads requests whose lines fit in the buffer, and the same requests with more lines than fit, or one longer line, in the place of
+// %s. They are read alike, from a connection that returns all octets at once, half of those asked for, or one. `wanted` has what readAll returns,
+// joined by commas. A request behind an empty line is not read.
 func TestRequestReader(t *testing.T) {
 	for _, row := range []struct{ text, wanted string }{
 		{"GET / HTTP/1.1\r\n%sHost: x\r\nX-Last: a\r\n\r\n", "GET a  <nil>, EOF"},
@@ -38,7 +41,7 @@ func TestRequestReader(t *testing.T) {
 		{"GET / HTTP/1.1\r\n%sHost: x\r\n\rx\r\n\r\n", `malformed MIME header: missing colon: "\rx"`},
 		{"GET / HTTP/1.1\r\n%sHost: x\r\n", "EOF"}, {"x\r\n%s\r\n", `malformed HTTP request "x"`},
 	} {
-		for _, more := range []string{"", strings.Repeat("X-More: x\r\n", 500), "X-More: " + strings.Repeat("x", 2*roomForRequest) + "\r\n"} {
+		for _, more := range []string{"", strings.Repeat("X-More: x\r\n", roomForRequest/10), "X-More: " + strings.Repeat("x", 2*roomForRequest) + "\r\n"} {
 			text := fmt.Sprintf(row.text, more)
 			for name, from := range map[string]io.Reader{
 				"whole": strings.NewReader(text), "halves": iotest.HalfReader(strings.NewReader(text)), "octets": iotest.OneByteReader(strings.NewReader(text)),

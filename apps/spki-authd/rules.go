@@ -1,5 +1,7 @@
 package main
 
+// Rules: which request, in SPKI's sense, a host, a method and a path of HTTP mean. Such a request is a list of strings, as `files read /a`.
+
 import (
 	"errors"
 	"fmt"

@@ -1,10 +1,14 @@
 package main
 
+// Tests of rules, which say for a host, a method and a path of HTTP which request, in SPKI's sense, they mean: a list of strings. The first rule
+// whose host and prefix fit is taken.
+
 import (
 	"reflect"
 	"testing"
 )
 
+// rulesOfTests are two rules: below /api/ the first is taken, which has POST alone.
 var rulesOfTests = []rule{
 	{Prefix: "/api/", Methods: map[string]string{"POST": "call"}, Request: []string{"api", "{path}", "{method}"}},
 	{Prefix: "/", Methods: map[string]string{"GET": "read", "PUT": "write"}, Request: []string{"files", "{method}", "{path}"}},

@@ -1,5 +1,7 @@
 package main
 
+// The running daemon: its main loop, which does what signals and orders ask for, and its end.
+
 import (
 	"context"
 	"fmt"
@@ -46,8 +48,9 @@ func (d *daemon) open(out, messages io.Writer) error {
 	if err != nil {
 		return err
 	}
-	patience := d.config.Limits.time()
+	patience := d.config.Limits.timeOfRequest()
 	d.ledger = ledger
+	// (only the ledger has something to do each second)
 	d.granted = newWriter(ledger, patience/partOfGrant, ledger.beat)
 	d.other = newWriter(&stream{to: out}, patience/partOfOther, nil)
 	d.messages = newWriter(&stream{to: messages}, patience/partOfOther, nil)
@@ -61,6 +64,7 @@ func (d *daemon) listenAndServe() error {
 	defer d.flush()
 	listener, err := d.config.listen()
 	if err != nil {
+		// (nothing was granted, so no line can be lost)
 		_ = d.closeLedger()
 		return err
 	}
@@ -88,7 +92,7 @@ func (d *daemon) closeLedger() error {
 // withLedger has the writer of grants call a function between two writes, and returns its error, or errHangs if that does not end in time.
 func (d *daemon) withLedger(call func() error) error {
 	result := make(chan error, 1)
-	if !d.granted.do(func() { result <- call() }) {
+	if !d.granted.callBetweenWrites(func() { result <- call() }) {
 		return errHangs
 	}
 	return <-result
@@ -99,10 +103,10 @@ func (d *daemon) withLedger(call func() error) error {
 func (d *daemon) serve(listener net.Listener) error {
 	connections := newConnectionServer(d.decider)
 	go connections.serve(listener)
-	d.tell("started", nil)
+	d.logEvent("started", nil)
 	// (a daemon whose service manager is gone answers all the same)
 	if err := notify(d.statusLine() + "\nREADY=1"); err != nil {
-		d.tell("announced", err)
+		d.logEvent("announced", err)
 	}
 	seconds := time.NewTicker(time.Second)
 	defer seconds.Stop()
@@ -111,8 +115,10 @@ func (d *daemon) serve(listener net.Listener) error {
 		case <-seconds.C:
 			d.watchClock()
 		case <-d.signals.reload:
+			// (as -reload without -fewer. An event has the error)
 			_ = d.reload(false)
 		case <-d.signals.reopen:
+			// (an event has the error)
 			_ = d.reopen()
 		case order := <-d.orders:
 			order.result <- order.call(d)
@@ -125,15 +131,16 @@ func (d *daemon) serve(listener net.Listener) error {
 // watchClock writes an event if the time of day went back since the last call.
 func (d *daemon) watchClock() {
 	d.clock.note(d.now())
-	if backs := d.clock.times.Load(); backs > d.backs {
+	if backs := d.clock.timesBack.Load(); backs > d.backs {
 		d.backs = backs
-		d.tell("the clock went back", nil)
+		d.logEvent("the clock went back", nil)
 	}
 }
 
 // end closes the listener, waits up to timeToEnd until the open requests are answered, and closes the log of grants. An event says how that went. The
 // error says that requests were still open, or that the last grants may not be on the disk.
 func (d *daemon) end(listener net.Listener, connections *connectionServer) error {
+	// (without its service manager the daemon ends all the same)
 	_ = notify("STOPPING=1")
 	limit, cancel := context.WithTimeout(context.Background(), timeToEnd)
 	defer cancel()
@@ -144,16 +151,17 @@ func (d *daemon) end(listener net.Listener, connections *connectionServer) error
 	} else if fault != nil {
 		err = fmt.Errorf("%w; %v", err, fault)
 	}
-	d.tell("ended", err)
+	d.logEvent("ended", err)
 	return err
 }
 
 // reload reads the access lists, the ended certificates and the certificate for TLS again: accessKeeper.reload says when it fails. An event and a message
 // to the service manager say how it went.
 func (d *daemon) reload(allowFewerEnded bool) error {
+	// (without its service manager the daemon reloads all the same)
 	_ = notify("RELOADING=1")
 	err := d.keeper.reload(d.config, allowFewerEnded, d.now())
-	d.tell("reloaded", err)
+	d.logEvent("reloaded", err)
 	_ = notify(d.statusLine() + "\nREADY=1")
 	return err
 }
@@ -161,7 +169,7 @@ func (d *daemon) reload(allowFewerEnded bool) error {
 // reopen opens the log of grants again, as after it was renamed, and says how that went by an event.
 func (d *daemon) reopen() error {
 	err := d.withLedger(d.ledger.reopen)
-	d.tell("reopened", err)
+	d.logEvent("reopened", err)
 	return err
 }
 
@@ -175,9 +183,9 @@ func (d *daemon) statusLine() string {
 	return line
 }
 
-// tell writes an event: what the daemon did, such as `reloaded`, or, if `fault` is not nil, what it did not do because of that. The event has the digests
-// of the lists and ended certificates that are in force now.
-func (d *daemon) tell(action string, fault error) {
+// logEvent writes an event: what the daemon did, such as `reloaded`, or, if `fault` is not nil, what it did not do because of that. The event has the
+// digests of the lists and ended certificates that are in force now.
+func (d *daemon) logEvent(action string, fault error) {
 	present := d.keeper.present.Load()
 	message := event{
 		Time: stamp(d.now()), Event: action, Entries: present.entries(), List: present.digest, Ended: present.ended.count, EndedDigest: present.ended.digest,
@@ -185,5 +193,5 @@ func (d *daemon) tell(action string, fault error) {
 	if fault != nil {
 		message.Event, message.Detail = action+" not", fault.Error()
 	}
-	d.messages.tell(message)
+	d.messages.offerEvent(message)
 }

@@ -1,5 +1,8 @@
 package main
 
+// Tests of a daemon that runs in this process and answers a web server's requests at a Unix socket, and of the program's command lines. By the list
+// Alice may read below /web/. A request for anything else gets 401, and one with an unclear path 400.
+
 import (
 	"bufio"
 	"bytes"
@@ -75,7 +78,8 @@ func TestEndsWithoutDisk(t *testing.T) {
 	if err != nil {
 		t.Fatal(err)
 	}
-	daemon.granted.do(func() {
+	// (from now on fsync fails. The writer's goroutine, which uses the file, changes it between two writes)
+	daemon.granted.callBetweenWrites(func() {
 		daemon.ledger.file = &failingFile{File: daemon.ledger.file.(*os.File), room: -1, syncFails: true}
 	})
 	// (the listener is closed by `end`, which waits until this has noticed it)
@@ -148,8 +152,8 @@ func TestReloadsUnderLoad(t *testing.T) {
 	all.Wait()
 }
 
-// TestConnectionsAreBounded opens more connections than may be, by clients that never send the rest of a request. Another client is answered after
-// them.
+// TestConnectionsAreBounded opens six connections, where two may be, by clients that never send the rest of a request. Each is closed after a second,
+// the time of a request, and then another client is answered.
 func TestConnectionsAreBounded(t *testing.T) {
 	s := serveHere(t, `, "limits": {"connections": 2, "seconds": 1}`)
 	var waiting []net.Conn
@@ -177,6 +181,7 @@ func TestConnectionsAreBounded(t *testing.T) {
 }
 
 // TestOtherRequests sends texts that no web server sends. Each gets one line in the log, and an answer of the decider, which is not 200, or none.
+// `long` has more octets than are read for one request, which are twice header_octets.
 func TestOtherRequests(t *testing.T) {
 	s := serveHere(t, `, "limits": {"seconds": 1}`)
 	for name, text := range map[string]string{
@@ -206,7 +211,7 @@ func TestOtherRequests(t *testing.T) {
 	}
 }
 
-// exchange sends the daemon a text, and returns all that it answers until it closes the connection.
+// exchange sends the daemon a text on a new connection, and returns all that it answers until it closes that.
 func (s *servedSite) exchange(t *testing.T, text string) []byte {
 	t.Helper()
 	connection, err := net.Dial("unix", s.socket)
@@ -214,7 +219,7 @@ func (s *servedSite) exchange(t *testing.T, text string) []byte {
 		t.Fatal(err)
 	}
 	defer connection.Close()
-	// (the daemon may close before all is written)
+	// (no error: the daemon may close the connection before all is written)
 	_, _ = connection.Write([]byte(text))
 	octets, _ := io.ReadAll(connection)
 	return octets
@@ -246,8 +251,8 @@ func TestRequestsInOneConnection(t *testing.T) {
 	}
 }
 
-// TestWaitingConnections asks where as many connections are open as may be. One that is idle makes room. Beside one on which a request is under way
-// the answer comes when that one is closed, and until then no line.
+// TestWaitingConnections asks where one connection is open, and only one is allowed. One that is idle makes room. Beside one on which a request is
+// under way the answer comes when that one is closed, and until then no line.
 func TestWaitingConnections(t *testing.T) {
 	s := serveHere(t, `, "limits": {"connections": 1, "seconds": 60}`)
 	first, err := net.Dial("unix", s.socket)
@@ -325,7 +330,8 @@ func TestManyKeptConnections(t *testing.T) {
 	}
 }
 
-// TestEndBesideConnections ends a daemon beside a connection without a request, and one whose request never ends. serveHere tests that it ends.
+// TestEndBesideConnections has a daemon end beside a connection without a request, and one whose request never ends. serveHere ends the daemon after
+// the test, and reports an error if it does not end in time.
 func TestEndBesideConnections(t *testing.T) {
 	s := serveHere(t, `, "limits": {"seconds": 1}`)
 	for _, text := range []string{"", "GET / HTTP/1.1\r\nHost: x\r\nX-Slow: "} {
@@ -344,7 +350,7 @@ func TestEndBesideConnections(t *testing.T) {
 	}
 }
 
-// A recordedDeadline is a connection that keeps the last deadline that was set, for reads or for both.
+// A recordedDeadline is a connection that keeps the last deadline that was set, for reads alone or for reads and writes.
 type recordedDeadline struct {
 	net.Conn
 	until time.Time
@@ -373,6 +379,7 @@ func TestDeadlines(t *testing.T) {
 		if ends(server); connection.until.IsZero() {
 			t.Errorf("%s: it stays", name)
 		}
+		// (the deadline that was over is replaced by one of the time of a request)
 		if err := server.setStage(state, isBusy); err != nil || time.Until(connection.until) < time.Second {
 			t.Errorf("%s: %v, %v", name, err, connection.until)
 		}
@@ -423,6 +430,7 @@ func TestBusySocket(t *testing.T) {
 		t.Fatal(err)
 	}
 	defer listener.Close()
+	// (a second listen(2) sets the length of the queue to the least)
 	raw, err := listener.SyscallConn()
 	if err != nil {
 		t.Fatal(err)
@@ -445,8 +453,8 @@ func TestBusySocket(t *testing.T) {
 	}
 }
 
-// TestManagerThatIsGone starts a daemon whose service manager is not there, and then fills the queue of one that reads nothing. The daemon has
-// started all the same, and nothing waits for the manager for long.
+// TestManagerThatIsGone starts a daemon whose service manager is not there: it starts all the same. Then it fills the queue of a manager that reads
+// nothing, by messages, until notify fails since it has waited for too long.
 func TestManagerThatIsGone(t *testing.T) {
 	path := filepath.Join(t.TempDir(), "manager")
 	t.Setenv(envNotify, path)
@@ -464,7 +472,8 @@ func TestManagerThatIsGone(t *testing.T) {
 	}
 }
 
-// TestCommandLines runs the program with several command lines, and compares the status and what is printed. Where `out` is full, the status is 1.
+// TestCommandLines runs the program with several command lines, and compares the status and what is printed. The status is 1 after a failure, also of
+// printing, and 2 for a wrong command line.
 func TestCommandLines(t *testing.T) {
 	list, bad := writeFile(t, "acl", "(acl (entry (public-key (test a)) (tag (*))))"), writeFile(t, "bad", "(acl (entry))")
 	config := writeFile(t, "config", strings.Replace(strings.Replace(leastConfig, "/acl", list, 1), `"/log"`, `"`+filepath.Join(t.TempDir(), "log")+`"`, 1))

@@ -1,5 +1,7 @@
 package main
 
+// The headers that are read, and those of each web server if the configuration names no others.
+
 import (
 	"fmt"
 	"net/textproto"
@@ -49,7 +51,7 @@ const (
 )
 
 // setUsual sets the names that were left out to those of `usual`, which has the headers of one web server, or to those of every server. It writes
-// each name as net/http does, since names are the same in upper and lower case.
+// each name as net/http does, such as X-Client-Cert: in names of headers upper and lower case do not differ.
 func (h *headers) setUsual(usual headers) {
 	usual.Sequence, usual.Secret, usual.ID, usual.Address = usualSequence, usualSecret, usualID, usualAddress
 	for place, name := range h.all() {

@@ -1,5 +1,8 @@
 package main
 
+// The sequences of certificates that clients have shown and whose signatures were all valid. They are kept, so that their signatures are not read and
+// verified again.
+
 import (
 	"crypto/sha256"
 	"encoding/hex"

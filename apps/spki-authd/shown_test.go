@@ -1,5 +1,9 @@
 package main
 
+// Tests of the sequences of certificates that the daemon keeps once a client has shown them and each signature was valid. At a site (newSite) Alice
+// may read below /web/, Bob below /web/docs/ by her certificate, and Carol below /web/docs/a/ by his. Mallory has no right. Status 200 grants, 401
+// (where certificates may help) and 403 deny, 400 refuses an unclear request, and 503 is a failure of the daemon.
+
 import (
 	"fmt"
 	"os"
@@ -50,7 +54,8 @@ func TestKeptSequencesGrantNothingByThemselves(t *testing.T) {
 	}
 }
 
-// TestSequenceIsCanonicalFromTheSecondTimeOn compares how the text of a kept sequence begins after it was shown once and twice.
+// TestSequenceIsCanonicalFromTheSecondTimeOn compares how the text of a kept sequence begins after it was shown once, in transport form, and twice,
+// in canonical form.
 func TestSequenceIsCanonicalFromTheSecondTimeOn(t *testing.T) {
 	s := newSite(t, "")
 	_, carols := s.sequencesShown()
@@ -80,9 +85,7 @@ func TestKeptSequencesAndTheList(t *testing.T) {
 		if err := os.WriteFile(s.config.List, []byte(row.text), 0o600); err != nil {
 			t.Fatal(err)
 		}
-		if err := s.keeper.reload(s.config, true, s.now()); err != nil {
-			t.Fatal(err)
-		}
+		s.mustReload(t)
 		s.mustAnswer(t, "another list", s.carol, "/web/docs/a/b", carols, row.wanted)
 	}
 }
@@ -96,20 +99,17 @@ func TestKeptSequencesAndEndedCertificates(t *testing.T) {
 	s.mustAnswer(t, "before", s.bob, "/web/docs/b", bobs, 200)
 	for place, certificate := range []string{s.toBob, s.toCarol} {
 		s.config.Ended = writeFile(t, "ended", withLastLine(digestOfText(certificate)+"\n"))
-		if err := s.keeper.reload(s.config, true, s.now()); err != nil {
-			t.Fatal(err)
-		}
+		s.mustReload(t)
 		line := s.mustAnswer(t, "ended", s.carol, "/web/docs/a/b", carols, 403)
+		// (the line has the certificates up to the ended one, and those before it are known to be valid)
 		if !strings.Contains(line.Reason, digestOfText(certificate)) || len(line.Certificates) != place+1 || line.Cached != place {
 			t.Errorf("%+v", line)
 		}
-		// (Bob shows only his own, which is the first)
+		// (Bob shows only his own, which has ended in the first turn alone)
 		s.mustAnswer(t, "Bob's", s.bob, "/web/docs/b", bobs, []int{403, 200}[place])
 	}
 	s.config.Ended = ""
-	if err := s.keeper.reload(s.config, true, s.now()); err != nil {
-		t.Fatal(err)
-	}
+	s.mustReload(t)
 	if line := s.mustAnswer(t, "no longer ended", s.carol, "/web/docs/a/b", carols, 200); line.Cached != 2 || len(line.Certificates) != 2 || line.List == "" {
 		t.Errorf("%+v", line)
 	}
@@ -138,9 +138,7 @@ func TestOnlyValidSequencesAreKept(t *testing.T) {
 	}
 	ended := newSite(t, "")
 	ended.config.Ended = writeFile(t, "ended", withLastLine(digestOfText(ended.toBob)+"\n"))
-	if err := ended.keeper.reload(ended.config, true, ended.now()); err != nil {
-		t.Fatal(err)
-	}
+	ended.mustReload(t)
 	bobs, _ := ended.sequencesShown()
 	if ended.mustAnswer(t, "an ended one", ended.bob, "/web/docs/b", bobs, 403); ended.countKept() != 0 {
 		t.Errorf("%d sequences are kept", ended.countKept())
@@ -161,6 +159,7 @@ func TestKeptSequencesAreBounded(t *testing.T) {
 	if s.countKept() > mostShown || s.countKept() < mostShown/2 {
 		t.Errorf("%d sequences are kept", s.countKept())
 	}
+	// (in transport form they have a third more: the first is below mostShownOctets, which is 8192, and the second above)
 	for _, octets := range []int{5000, 7000} {
 		text := sequence(str(strings.Repeat("x", octets)))
 		if s.sequences.add(text, &shownSequence{}); (s.sequences.get(text) != nil) != (len(text) <= mostShownOctets) {
@@ -184,7 +183,8 @@ func TestSignaturesThatAreNotRead(t *testing.T) {
 	s := newSite(t, "")
 	bobs, _ := s.sequencesShown()
 	question := guard.Question{Sequence: []byte(bobs), Key: spki.AssumeKey([]byte(s.bob.key)), Words: anyWords, Time: s.now()}
-	_, list, err := s.keeper.listFor("", "/web/x")
+	const anyHost = ""
+	_, list, err := s.keeper.listFor(anyHost, "/web/x")
 	if err != nil {
 		t.Fatal(err)
 	}

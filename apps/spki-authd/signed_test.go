@@ -1,5 +1,10 @@
 package main
 
+// Tests of requests that a client has signed by HTTP message signatures, which prove its key in place of TLS. A nonce in the signature makes each
+// request good for one time. At a site (newSite) Alice may read below /web/, Bob below /web/docs/ by her certificate, and Carol below /web/docs/a/ by
+// his. Mallory has no right. Status 200 grants, 401 (where certificates may help) and 403 deny, 400 refuses an unclear request, and 503 is a failure
+// of the daemon.
+
 import (
 	"net/http"
 	"net/http/httptest"
@@ -13,8 +18,8 @@ import (
 // withSignatures are fields for newSite, by which requests may be signed for two names of the site.
 const withSignatures = `, "signatures": {"names": ["files.example.org", "files.example.net:8443"]}`
 
-// signedHeaders returns the headers of a request that a person has signed, in pairs of name and value, as nginx passes them on. `sequence` and `body` may be
-// empty.
+// signedHeaders returns the headers of a request that a person has signed, in pairs of name and value, as nginx passes them on. `authority` is the
+// host, with a port if that is not 443. `sequence`, which is shown in a header, and `body` may be empty.
 func (p person) signedHeaders(t testing.TB, method, authority, target, sequence string, body []byte) []string {
 	t.Helper()
 	signer, err := httpsig.NewSigner(p.private)
@@ -56,7 +61,8 @@ func without(pairs []string, name string) []string {
 	return remaining
 }
 
-// TestSignedRequests asks with signed requests, right ones and changed ones, and compares the status and the reason.
+// TestSignedRequests asks with signed requests, right ones and changed ones, and compares the status and the reason. The site has the names of
+// withSignatures: files.example.org and files.example.net:8443.
 func TestSignedRequests(t *testing.T) {
 	s := newSite(t, withSignatures)
 	bobs, _ := s.sequencesShown()
@@ -141,13 +147,13 @@ func TestSignatureSettings(t *testing.T) {
 	}
 }
 
-// forgetfulNonces accept each nonce again, so that one request can be sent often.
+// forgetfulNonces is a memory of nonces that accepts each one again, so that one request can be sent often.
 type forgetfulNonces struct{}
 
 // Take accepts each nonce.
 func (forgetfulNonces) Take([]byte, string, int64, int64) error { return nil }
 
-// BenchmarkSigned measures a signed request without certificates: the proof and the decision.
+// BenchmarkSigned measures a signed request without certificates: the proof of the key, the decision and the response.
 func BenchmarkSigned(b *testing.B) {
 	s := newSite(b, withSignatures)
 	s.logGrant = func([]byte) error { return nil }
@@ -160,7 +166,7 @@ func BenchmarkSigned(b *testing.B) {
 	b.ReportAllocs()
 	for turn := 0; turn < b.N; turn++ {
 		result := s.answerTo(request)
-		if result.response(nil, time.Now(), false); result.Status != http.StatusOK {
+		if result.response(nil, time.Now(), !isLast); result.Status != http.StatusOK {
 			b.Fatal(result.Status, result.Reason)
 		}
 	}

@@ -1,5 +1,7 @@
 package main
 
+// Unix sockets: that of the web server and that of the operator.
+
 import (
 	"errors"
 	"fmt"
@@ -70,13 +72,15 @@ func removeStale(path string) error {
 	return os.Remove(path)
 }
 
-// setGroupAndMode sets the group and the mode of the web server's socket, as `socket_group` and `socket_mode` say.
+// setGroupAndMode sets the group and the mode of the web server's socket, as `socket_group` and `socket_mode` say. It fails as groupOfSocket and
+// modeOf do, or if the system refuses it.
 func (c *config) setGroupAndMode(path string) error {
 	if c.SocketGroup != "" {
 		number, err := c.groupOfSocket()
 		if err != nil {
 			return err
 		}
+		// (-1 leaves its owner)
 		if err := os.Chown(path, -1, number); err != nil {
 			return err
 		}

@@ -1,5 +1,7 @@
 package main
 
+// Where an access list comes from: a file, or a store, which is a database with a row for each entry.
+
 import (
 	"bytes"
 	"encoding/json"
@@ -155,7 +157,7 @@ func (s *scope) read(policy guard.Policy, c *config) (*list, error) {
 	}
 	options := s.Source.store
 	if options.opened == nil {
-		reader, err := openReader(options, c.Limits.time()/partOfGrant)
+		reader, err := openReader(options, c.Limits.timeOfRequest()/partOfGrant)
 		if err != nil {
 			return nil, err
 		}

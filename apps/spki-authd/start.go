@@ -1,5 +1,7 @@
 package main
 
+// The start of the daemon, and -test, which only reads its files.
+
 import (
 	"fmt"
 	"io"
@@ -61,6 +63,7 @@ func start(words words, out, messages io.Writer) error {
 	if decider.chains, err = openChains(config, decider.now(), !words.isTest); err != nil {
 		return err
 	}
+	// (the first reload: no certificate has ended before it, so it does not matter whether fewer may have)
 	if err := decider.keeper.reload(config, false, decider.now()); err != nil {
 		return err
 	}

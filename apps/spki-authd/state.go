@@ -1,5 +1,7 @@
 package main
 
+// The state of a daemon, by which an operator sees whether two daemons have the same lists and ended certificates.
+
 import (
 	"errors"
 	"fmt"

@@ -1,5 +1,9 @@
 package main
 
+// A store: an access list in a database, with a row for each entry. The daemon reads the entries that a question needs, keeps them, and polls the
+// changes. A beat is a mark with the time that the store gets each second. The state is stale if its last beat is too old: then nothing is decided by
+// it.
+
 import (
 	"bytes"
 	"crypto/sha1"
@@ -42,10 +46,10 @@ type store struct {
 type reader interface {
 	// rows returns the entries for a key, and the state. `digests` are those that digestsOf returns for the key.
 	rows(digests [][]byte) (entryRows, error)
-	// since returns the changes after the one with this number, the time of that one, and the state.
-	since(number int64) (pollResult, error)
-	// whole returns all ended certificates, and the state.
-	whole() (pollResult, error)
+	// changesSince returns the changes after the one with this number, the time of that one, and the state.
+	changesSince(number int64) (pollResult, error)
+	// allEnded returns all ended certificates, and the state.
+	allEnded() (pollResult, error)
 	// chains returns the sequences that are kept for the key with this digest.
 	chains(key digest) ([]keptChain, error)
 	// keep keeps a sequence for the key with this digest, if the limits let it, and returns the answer to the client.
@@ -67,11 +71,11 @@ type entryRows struct {
 	texts   [][]byte
 }
 
-// A pollResult is what `since` or `whole` returns. Of changes, `changed` has the digests of the keys whose entries have changed, and `ended` the certificates
-// that have ended. isCut says that there were more changes than one poll reads.
+// A pollResult is what `changesSince` or `allEnded` returns. Of changes, `changed` has the digests of the keys whose entries have changed, and
+// `ended` the certificates that have ended. isCut says that there were more changes than one poll reads.
 type pollResult struct {
 	storeState
-	// The time of the change with the number that `since` was given, or 0 if there is no such change.
+	// The time of the change with the number that `changesSince` was given, or 0 if there is no such change.
 	first   int64
 	changed [][]byte
 	ended   []digest

@@ -1,5 +1,7 @@
 package main
 
+// The sequences that clients have left, in a store in PostgreSQL.
+
 import (
 	"encoding/hex"
 	"fmt"
@@ -72,6 +74,7 @@ func (s *storedChains) add(key string, chain keptChain, _ time.Time) (answer, er
 
 // digestIn returns the octets of a digest, whose 64 hexadecimal digits are `text`.
 func digestIn(text string) (octets digest) {
+	// (hexDigest has made the text, so this cannot fail)
 	_, _ = hex.Decode(octets[:], []byte(text))
 	return octets
 }

@@ -2,6 +2,9 @@
 
 package main
 
+// A test of a store in PostgreSQL while its servers, its network and its clock fail: tests/suite/test_store_failures.py has them fail, and ends the
+// test. A beat is a mark with the time that a store gets again and again, by which the daemon knows how old the store's state is.
+
 import (
 	"database/sql/driver"
 	"encoding/hex"
@@ -61,6 +64,7 @@ func newTimeline(t *testing.T) *timeline {
 	line := &timeline{rig: newRig(t, failingPatience), end: make(chan struct{}), past: []*version{{map[int]string{}, time.Now(), time.Time{}}}}
 	line.store.options.StaleSeconds = failingStale
 	for _, host := range strings.Split(os.Getenv(envWriters), ",") {
+		// (each is asked at its Unix socket, by one connection)
 		options := *line.store.options
 		options.Host, options.Root, options.Connections = host, "", 1
 		opened, err := openReader(&options, failingPatience)
@@ -87,6 +91,7 @@ func (l *timeline) transact(texts []string, values ...driver.Value) (rows [][]dr
 		if place == len(texts) {
 			parameters = values
 		}
+		// (a link has room for a few statements, by their numbers: this uses only the first)
 		if err = taken.forget(0); err == nil {
 			use := func(row []driver.Value) error { rows = append(rows, copyOf(row)); return nil }
 			err = taken.ask(0, strings.ReplaceAll(text, "@", l.store.options.Schema), use, parameters)
@@ -113,11 +118,11 @@ func copyOf(row []driver.Value) []driver.Value {
 	return copied
 }
 
-// The statement that adds a beat, by the clock of a server, which is wrong by what the table `error` says.
+// The statement that adds a beat, by the clock of a server. The table `error` says by how much that is wrong, as the test sets it.
 const beats = "UPDATE @.heartbeat SET number = number + 1, moment = clock_timestamp() + (SELECT by FROM @.error)"
 
-// change adds an entry or removes one, with a beat, and notes the version. Below 40 entries it adds one, and otherwise it does either by chance. If that
-// fails, it is not certain whether it was done: then settle finds out.
+// change adds an entry or removes one, with a beat, and notes the version. Below 40 entries it adds one, and otherwise it does either at random. If
+// that fails, it is not certain whether it was done: then settle finds out.
 func (l *timeline) change() {
 	last := l.past[len(l.past)-1].entries
 	next, begun := make(map[int]string, len(last)+1), time.Now()
@@ -153,7 +158,8 @@ func (l *timeline) settle(begun time.Time) {
 			for _, row := range rows[1:] {
 				entries[int(row[0].(int64))] = string(row[1].([]byte))
 			}
-			l.add(&version{entries, begun, time.Time{}}, true)
+			const isCertain = true
+			l.add(&version{entries, begun, time.Time{}}, isCertain)
 			return
 		}
 		select {

@@ -2,6 +2,9 @@
 
 package main
 
+// Measurements of decisions by a store in PostgreSQL. bench/store.py fills the store, runs these, and reads their figures: each is a line on standard
+// output.
+
 import (
 	"errors"
 	"fmt"
@@ -26,7 +29,7 @@ const (
 	envWhat = "SPKI_STORE_WHAT"
 )
 
-// figures has a store, and for how many keys it has entries.
+// figures has what is measured: a store, and for how many keys it has entries, numbered from 0.
 type figures struct {
 	*testing.T
 	store *store
@@ -52,7 +55,8 @@ func TestStoreFigures(t *testing.T) {
 // newFigures opens the store that the environment names, which has entries for so many keys, and polls it once. It is stale only after decades, so it need
 // not be polled again.
 func newFigures(t *testing.T, keys int) *figures {
-	options := &storeOf{Host: os.Getenv(envHost), Database: "postgres", User: "postgres", Schema: os.Getenv(envSchema), StaleSeconds: 1 << 30}
+	const decades = 1 << 30
+	options := &storeOf{Host: os.Getenv(envHost), Database: "postgres", User: "postgres", Schema: os.Getenv(envSchema), StaleSeconds: decades}
 	if err := options.check(); err != nil {
 		t.Fatal(err)
 	}
@@ -83,7 +87,7 @@ func key(number int) []byte {
 func (f *figures) timeOf(number int) time.Duration {
 	question := guard.Question{Sequence: noCertificates, Key: spki.AssumeKey(key(number)), Words: []string{"files", "read", "/web/x"}, Time: time.Now()}
 	begun := time.Now()
-	decision, err := f.decides(question)
+	decision, err := f.decide(question)
 	took := time.Since(begun)
 	if err != nil || !decision.Granted() {
 		f.Error(number, decision, err)
@@ -91,8 +95,9 @@ func (f *figures) timeOf(number int) time.Duration {
 	return took
 }
 
-// decides asks the store as the daemon does: a list that another goroutine has dropped meanwhile is asked for again.
-func (f *figures) decides(question guard.Question) (guard.Decision, error) {
+// decide asks the store as the daemon does: a list that another goroutine has dropped meanwhile is asked for again. The question shows no
+// certificates, so no signature is verified.
+func (f *figures) decide(question guard.Question) (guard.Decision, error) {
 	for {
 		list, err := f.store.list(&question)
 		if err != nil {
@@ -156,6 +161,7 @@ func min(one, other int) int {
 // other keys are seldom kept. It prints the questions a second, the part that was answered from kept lists, and the figure `load`, for
 // bench/store.py.
 func (f *figures) measureLoad() {
+	// (how many questions each goroutine asks, and how many keys are asked for often)
 	const each, hot = 20_000, 200
 	f.store.kept.most = 1 << 20
 	workers := 2 * runtime.NumCPU()
@@ -189,7 +195,7 @@ func (f *figures) measureLoad() {
 }
 
 // BenchmarkStored measures one decision: Carol shows two certificates, whose signatures the first turn verifies. The entries are in a store, and kept from
-// that turn on.
+// that turn on. No line is logged.
 func BenchmarkStored(b *testing.B) {
 	s := newStored(b)
 	s.logGrant = func([]byte) error { return nil }

@@ -1,5 +1,7 @@
 package main
 
+// The lists of a store that are kept in memory: each has the entries for one key.
+
 import ordered "container/list"
 
 // keptRows keeps lists, each with the entries for one key, up to `most` octets: those that were asked for last. The mutex of its store guards it.

@@ -2,6 +2,8 @@
 
 package main
 
+// The network connections to a store in PostgreSQL.
+
 import (
 	"net"
 	"time"

@@ -5,6 +5,7 @@ package main
 import (
 	"strings"
 	"testing"
+	"time"
 )
 
 // TestNoDriver reads a configuration with a list in PostgreSQL by a daemon that is built without a driver. The error names the tag to build it with.
@@ -14,7 +15,7 @@ func TestNoDriver(t *testing.T) {
 	if err != nil {
 		t.Fatal(err)
 	}
-	if _, err := readAccess(config, newSite(t, "").now()); err == nil || !strings.Contains(err.Error(), "spki_postgres") {
+	if _, err := readAccess(config, time.Now()); err == nil || !strings.Contains(err.Error(), "spki_postgres") {
 		t.Errorf("%v", err)
 	}
 }

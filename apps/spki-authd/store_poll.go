@@ -1,5 +1,7 @@
 package main
 
+// How a store is polled, what -health and the metrics say of it, and the stamp of a list, by which states of it are compared.
+
 import (
 	"fmt"
 	"time"
@@ -22,13 +24,13 @@ func (s *store) pollOnce() error {
 	var err error
 	follows := false
 	if !before.at.IsZero() {
-		result, err = s.reader.since(before.changes)
+		result, err = s.reader.changesSince(before.changes)
 		// (another time of the same change is another history, and fewer changes or beats are an older state)
 		follows = err == nil && !result.isCut && result.first == before.token && result.changes >= before.changes && result.beat >= before.beat
 	}
 	if err == nil && !follows {
 		begun = s.now()
-		result, err = s.reader.whole()
+		result, err = s.reader.allEnded()
 	}
 	s.mutex.Lock()
 	defer s.mutex.Unlock()
@@ -72,6 +74,7 @@ func (s *store) statusLine() (string, error) {
 	if err == nil {
 		err = s.fault
 	}
+	// (checkFresh has returned the error of this)
 	age, _ := s.polled.age(s.now())
 	return fmt.Sprintf("store: change %d, beat %d, %.1f s old, ended %d, kept %d keys in %d octets, read %d times, not read %d\n", s.polled.changes,
 		s.polled.beat, age.Seconds(), len(s.ended), s.kept.count(), s.kept.size, s.count.misses, s.count.failures), err
@@ -102,7 +105,7 @@ var storeFamilies = []struct {
 	name, kind, help string
 	valueOf          func(s *store) any
 }{
-	{"store_stale", "gauge", "1 if the store is stale, and each decision by it 503.", func(s *store) any { return number(s.checkFresh() != nil) }},
+	{"store_stale", "gauge", "1 if the store is stale, and each decision by it 503.", func(s *store) any { return oneIf(s.checkFresh() != nil) }},
 	{"store_change", "gauge", "The number of the last change that was polled.", func(s *store) any { return s.lastPolled().changes }},
 	{"store_rows_kept_total", "counter", "Decisions by rows that were kept.", func(s *store) any { return s.countsNow().hits }},
 	{"store_rows_read_total", "counter", "Decisions whose rows were read.", func(s *store) any { return s.countsNow().misses }},

@@ -2,6 +2,9 @@
 
 package main
 
+// The statements by which a store in PostgreSQL is read. A row of their results begins with the state of the store: its version, its last change and
+// its last beat.
+
 import (
 	"context"
 	"crypto/sha1"
@@ -28,21 +31,21 @@ type pool struct {
 	// The SQL of each statement, by its number: askRows to askKeep.
 	texts [asks]string
 	// How often renew was called: a connection that was opened before the last call is closed before it is used again.
-	times atomic.Int64
+	renewals atomic.Int64
 }
 
-// A link is a connection, its prepared statements by their numbers, which are nil until they are used, and the pool's `times` when it was opened.
+// A link is a connection, its prepared statements by their numbers, which are nil until they are used, and the pool's `renewals` when it was opened.
 type link struct {
 	driver.Conn
 	statements [asks]driver.Stmt
-	times      int64
+	renewals   int64
 }
 
 // The numbers of the statements, each named by the method of reader that uses it, and how many there are.
 const (
 	askRows = iota
-	askSince
-	askWhole
+	askChangesSince
+	askAllEnded
 	askChains
 	askKeep
 	asks
@@ -80,10 +83,10 @@ func openReader(options *storeOf, patience time.Duration) (reader, error) {
 	for ask, text := range map[int]string{
 		askRows: "SELECT " + stateColumns + ", e.number, e.text FROM " + stateTables + " LEFT JOIN LATERAL (" + rowsOf(sha1.Size, 1) + " UNION ALL " +
 			rowsOf(sha256.Size, 2) + " UNION ALL " + rowsOf(sha512.Size, 3) + fmt.Sprintf(" LIMIT %d) e ON true ORDER BY e.number", mostRows+1),
-		askSince: "SELECT " + stateColumns + ", c.number, " + microseconds + ", c.what, c.digest FROM " + stateTables +
+		askChangesSince: "SELECT " + stateColumns + ", c.number, " + microseconds + ", c.what, c.digest FROM " + stateTables +
 			fmt.Sprintf(" LEFT JOIN LATERAL (SELECT * FROM (SELECT number, moment, what, digest FROM @.changes WHERE number >= $1 ORDER BY number LIMIT %d) l)"+
 				" c ON true ORDER BY c.number", mostChanges+2),
-		askWhole: "SELECT " + stateColumns + ", " + microseconds + ", e.certificate FROM " + stateTables +
+		askAllEnded: "SELECT " + stateColumns + ", " + microseconds + ", e.certificate FROM " + stateTables +
 			" LEFT JOIN @.changes c ON c.number = s.changes LEFT JOIN @.ended e ON true",
 		askChains: "SELECT text, (extract(epoch FROM until) * 1000000)::bigint FROM @.chains WHERE key = $1 ORDER BY until, digest",
 		askKeep:   "SELECT @.keep($1, $2, $3, $4, $5)",
@@ -121,7 +124,7 @@ func (d dialer) DialTimeout(network, address string, _ time.Duration) (net.Conn,
 
 // renew has each connection closed before it would be used again.
 func (p *pool) renew() {
-	p.times.Add(1)
+	p.renewals.Add(1)
 }
 
 // take takes a connection from a slot, or opens a new one. The caller puts it into p.slots again, or nil after closing it. It fails if no slot is free in
@@ -135,8 +138,8 @@ func (p *pool) take() (*link, error) {
 	case <-timer.C:
 		return nil, errors.New("no connection is free")
 	}
-	times := p.times.Load()
-	if taken != nil && taken.times == times {
+	renewals := p.renewals.Load()
+	if taken != nil && taken.renewals == renewals {
 		return taken, nil
 	}
 	if taken != nil {
@@ -147,7 +150,7 @@ func (p *pool) take() (*link, error) {
 		p.slots <- nil
 		return nil, err
 	}
-	return &link{Conn: opened, times: times}, nil
+	return &link{Conn: opened, renewals: renewals}, nil
 }
 
 // ask runs the statement with a number such as askRows and these values of its parameters, and calls a function with each of its rows. The row's values are
@@ -242,11 +245,12 @@ func requireState(hasState bool, err error) error {
 	return err
 }
 
-// since returns the changes after the one with a number, and the time of that one. Behind the state a row has the number, the time, the kind and the digest
-// of a change. The statement also reads the change with that number, and one more than a poll takes, which shows whether there are more.
-func (p *pool) since(number int64) (result pollResult, err error) {
+// changesSince returns the changes after the one with a number, and the time of that one. Behind the state a row has the number, the time, the kind
+// and the digest of a change. The statement also reads the change with that number, and one more than a poll takes, which shows whether there are
+// more.
+func (p *pool) changesSince(number int64) (result pollResult, err error) {
 	hasState, count := false, 0
-	err = p.ask(askSince, func(row []driver.Value) (err error) {
+	err = p.ask(askChangesSince, func(row []driver.Value) (err error) {
 		result.storeState, err = stateIn(row)
 		hasState = true
 		changeNumber, isThere := row[4].(int64)
@@ -254,7 +258,7 @@ func (p *pool) since(number int64) (result pollResult, err error) {
 			return err
 		}
 		moment, _ := row[5].(int64)
-		// (the rows come in the order of their numbers: the last one has the time of the last change, unless isCut, when pollOnce asks `whole`)
+		// (the rows come in the order of their numbers: the last one has the time of the last change, unless isCut, when pollOnce asks `allEnded`)
 		result.token = moment
 		if changeNumber == number {
 			result.first = moment
@@ -277,10 +281,11 @@ func (r *pollResult) note(kind driver.Value, octets []byte) {
 	r.changed = append(r.changed, octets)
 }
 
-// whole returns all ended certificates. Behind the state a row has the time of the last change and the digest of one certificate, or NULL if there is none.
-func (p *pool) whole() (result pollResult, err error) {
+// allEnded returns all ended certificates. Behind the state a row has the time of the last change and the digest of one certificate, or NULL if there
+// is none.
+func (p *pool) allEnded() (result pollResult, err error) {
 	hasState := false
-	err = p.ask(askWhole, func(row []driver.Value) (err error) {
+	err = p.ask(askAllEnded, func(row []driver.Value) (err error) {
 		result.storeState, err = stateIn(row)
 		hasState = true
 		result.token, _ = row[4].(int64)
@@ -295,6 +300,7 @@ func (p *pool) whole() (result pollResult, err error) {
 // chains returns the sequences that are kept for the key with a digest, by their ends.
 func (p *pool) chains(key digest) (chains []keptChain, err error) {
 	err = p.ask(askChains, func(row []driver.Value) error {
+		// (a value that is no number is read as 0, which is 1970: such a sequence has ended)
 		until, _ := row[1].(int64)
 		chains = append(chains, keptChain{text: string(octetsIn(row[0])), until: time.UnixMicro(until)})
 		return nil

@@ -2,6 +2,9 @@
 
 package main
 
+// Tests of a store in PostgreSQL. tests/suite/test_store.py makes an empty store, and names it in the environment. Random questions are asked while a
+// writer changes the entries, and each answer is compared with that of a guard of the whole list. The number of a change is its place in `history`.
+
 import (
 	"database/sql/driver"
 	"encoding/hex"
@@ -81,8 +84,8 @@ func newRig(t *testing.T, patience time.Duration) *rig {
 	return opened
 }
 
-// forget closes the statement with a number, if it is prepared, so that the next ask prepares the text that it is given. Else ask would run again the
-// statement that it has prepared under this number.
+// forget closes the statement with a number, if it is prepared, so that the next `ask` prepares the text that it is given. Else `ask` would run the
+// statement again that it has prepared under this number.
 func (l *link) forget(number int) error {
 	prepared := l.statements[number]
 	if prepared == nil {
@@ -99,10 +102,12 @@ func (r *rig) runStatement(text string, values ...driver.Value) (first int64) {
 		r.t.Error(err)
 		return 0
 	}
+	// (a link has room for a few statements, by their numbers: this uses only the first)
 	if err = link.forget(0); err == nil {
 		use := func(row []driver.Value) error { first, _ = row[0].(int64); return nil }
 		err = link.ask(0, fmt.Sprintf(text, r.store.options.Schema), use, values)
 	}
+	// (the link is given back)
 	r.writer.slots <- link
 	if err != nil {
 		r.t.Error(err)
@@ -110,13 +115,14 @@ func (r *rig) runStatement(text string, values ...driver.Value) (first int64) {
 	return first
 }
 
-// somebody returns one of the people by chance.
+// somebody returns one of the people at random.
 func (r *rig) somebody(random *rand.Rand) person {
 	return r.people[random.Intn(len(r.people))]
 }
 
 // principalOf returns a person's key or, half of the time, a hash of it.
 func principalOf(who person, random *rand.Rand) string {
+	// (in this order: by SHA-1, SHA-256 and SHA-512)
 	digests := digestsOf([]byte(who.key))
 	switch random.Intn(6) {
 	case 0:
@@ -129,7 +135,7 @@ func principalOf(who person, random *rand.Rand) string {
 	return who.key
 }
 
-// entry returns an entry by chance: for somebody's key or its hash, or for their name `friends`, and for one of three folders.
+// entry returns a random entry: for somebody's key or its hash, or for their name `friends`, and for one of three folders.
 func (r *rig) entry() string {
 	subject, more := principalOf(r.somebody(r.random), r.random), ""
 	if r.random.Intn(8) == 0 {
@@ -142,8 +148,8 @@ func (r *rig) entry() string {
 	return "(5:entry" + subject + more + "(3:tag" + prefix("read", folder) + "))"
 }
 
-// change adds an entry or removes one, as another client does, and notes the list after it. Below 40 entries it adds one, and otherwise it does either by
-// chance.
+// change adds an entry or removes one, as another client does, and notes the list after it. Below 40 entries it adds one, and otherwise it does
+// either at random.
 func (r *rig) change() {
 	next := map[int]string{}
 	for number, text := range r.entries {
@@ -175,7 +181,8 @@ func numbersOf(entries map[int]string) []int {
 	return numbers
 }
 
-// question returns a question by chance with up to three certificates, some of which are wrong.
+// question returns a random question with up to three certificates, each from one person to the next. About one of 20 certificates is signed by
+// anybody, and about one of 20 sequences has a value that is no certificate, so that it is refused.
 func (r *rig) question(random *rand.Rand) guard.Question {
 	chain := []person{r.somebody(random)}
 	text := "(8:sequence"
@@ -246,6 +253,7 @@ func (r *rig) answer(question guard.Question) string {
 // enough, and so must answers by entries that were kept (`hits`).
 func TestQuestionsToStore(t *testing.T) {
 	r := newRig(t, time.Minute)
+	// (so that the first questions find entries)
 	for count := 0; count < 60; count++ {
 		r.change()
 	}
@@ -268,6 +276,7 @@ func TestQuestionsToStore(t *testing.T) {
 	questions, _ := strconv.Atoi(os.Getenv(envQuestions))
 	counts := map[string]int{}
 	for count := 0; count < questions && !t.Failed(); count++ {
+		// (now and then, so that kept entries are used between two polls)
 		if count%20 == 0 {
 			if err := r.store.pollOnce(); err != nil {
 				t.Error(err)
@@ -313,7 +322,7 @@ func (r *rig) isRightSoon(at int64, question guard.Question, answer string) bool
 	return false
 }
 
-// after returns the entries after the change with a number, or nil if that is not noted yet.
+// after returns the entries after the change with a number, by their numbers, or nil if that change is not noted yet.
 func (r *rig) after(change int64) map[int]string {
 	r.mutex.Lock()
 	defer r.mutex.Unlock()

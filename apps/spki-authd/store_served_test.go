@@ -2,6 +2,9 @@
 
 package main
 
+// A measurement of daemons that decide by a store in PostgreSQL and are asked over HTTP. bench/store.py starts them and this test, and reads its
+// line. `hot` people ask again and again, so that the daemons keep their rows, and `cold` people once.
+
 import (
 	"bufio"
 	"database/sql/driver"
@@ -75,17 +78,19 @@ func TestStoreServed(t *testing.T) {
 	for _, each := range l.times {
 		times = append(times, each...)
 	}
+	const ofDaemons, ofServer, ofClients, ofMachine = 0, 1, 2, 3
 	microsecondsEach := func(which int) float64 {
 		return float64((after[which] - before[which]).Microseconds()) / float64(len(times))
 	}
 	sort.Slice(times, func(one, other int) bool { return times[one] < times[other] })
 	fmt.Printf("figure served second %.0f p50 %d p99 %d daemon %.1f server %.1f clients %.1f octets %d busy %.2f\n", float64(len(times))/took.Seconds(),
-		times[len(times)/2].Microseconds(), times[len(times)*99/100].Microseconds(), microsecondsEach(0), microsecondsEach(1), microsecondsEach(2), octets/len(times),
-		(after[3]-before[3]).Seconds()/took.Seconds())
+		times[len(times)/2].Microseconds(), times[len(times)*99/100].Microseconds(), microsecondsEach(ofDaemons), microsecondsEach(ofServer), microsecondsEach(ofClients),
+		octets/len(times), (after[ofMachine]-before[ofMachine]).Seconds()/took.Seconds())
 }
 
-// populate makes people, puts their entries into the store, and makes the request of each.
+// populate makes people, puts their entries into the store, and sets `requests`. It waits until the daemons have polled that.
 func (l *load) populate() {
+	// (it opens the store: its number of keys is not used)
 	f := newFigures(l.T, 1)
 	writer, err := openReader(f.store.options, time.Minute)
 	if err != nil {
@@ -111,6 +116,7 @@ func (l *load) populate() {
 // warm has each daemon read the rows of those who ask often.
 func (l *load) warm() {
 	for _, socket := range l.sockets {
+		// (it draws no numbers, so any seed will do, and it notes no times)
 		visitor := l.newVisitor(socket, 0, nil)
 		for number := 0; number < hotPeople; number++ {
 			visitor.askFor(number)
@@ -192,6 +198,7 @@ func runAt(writer *pool, text string, values ...driver.Value) error {
 		return err
 	}
 	defer link.Close()
+	// (the first of the statements that a connection has room for)
 	return link.ask(0, text, func([]driver.Value) error { return nil }, values)
 }
 
@@ -234,14 +241,16 @@ func busyTime() time.Duration {
 	if len(fields) < 9 {
 		return 0
 	}
+	// (by proc(5): user, nice and system, and irq, softirq and steal)
 	return ticksIn(fields[1:4]) + ticksIn(fields[6:9])
 }
 
-// ticksIn returns the time of some fields, which count hundredths of a second.
+// ticksIn returns the sum of the times in some fields, each a number of ticks of a hundredth of a second.
 func ticksIn(fields []string) (sum time.Duration) {
+	const tick = 10 * time.Millisecond
 	for _, each := range fields {
 		count, _ := strconv.Atoi(each)
-		sum += time.Duration(count) * 10 * time.Millisecond
+		sum += time.Duration(count) * tick
 	}
 	return sum
 }

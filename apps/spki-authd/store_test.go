@@ -1,5 +1,9 @@
 package main
 
+// Tests of a store: an access list whose entries are rows of a database, which a `table` in memory stands for here. The daemon polls the changes of
+// the store, and keeps rows that it has read. A beat is a mark that the store gets each second: without one for ten seconds it is stale, and the
+// answer is 503. Alice may read below /web/ by entry 7, and Bob below /web/docs/ by her certificate. 200 grants, 401 and 403 deny.
+
 import (
 	"encoding/hex"
 	"errors"
@@ -16,10 +20,10 @@ type table struct {
 	// The entries, and the SHA-256 digests of their keys, by the numbers of the entries.
 	texts      map[int]string
 	keyDigests map[int]string
-	// All changes, first that with the number 1, and what `whole` returns as ended.
-	news  []change
-	ended []digest
-	state storeState
+	// All changes, first that with the number 1, and what `allEnded` returns as ended.
+	changes []change
+	ended   []digest
+	state   storeState
 	// The error of each call, or nil.
 	fault error
 	// What happens after rows were read and before they are returned.
@@ -38,7 +42,7 @@ type change struct {
 	token     int64
 }
 
-// put puts an entry for a key into the table, or takes it out if `text` is empty.
+// put puts an entry with a number, for a key, into the table, or takes it out if `text` is empty. It notes the change, which the next poll returns.
 func (t *table) put(number int, key, text string) {
 	// (the second digest is that by SHA-256)
 	keyDigest := string(digestsOf([]byte(key))[1])
@@ -49,12 +53,13 @@ func (t *table) put(number int, key, text string) {
 	t.note(change{keyDigest: keyDigest})
 }
 
-// note adds a change with the next number, at a later time.
+// note adds a change with the next number, at a later time, the token.
 func (t *table) note(next change) {
 	t.state.changes++
+	// (any later time)
 	t.state.token += 7
 	next.token = t.state.token
-	t.news = append(t.news, next)
+	t.changes = append(t.changes, next)
 }
 
 // rows returns the entries whose key has one of these digests, in the order of their numbers, which are below 100. Before it returns, it calls `meanwhile`
@@ -76,14 +81,14 @@ func (t *table) rows(digests [][]byte) (rows entryRows, err error) {
 	return rows, t.fault
 }
 
-// since returns the changes after the one with a number, and the time of that one, or 0 if there is no such change.
-func (t *table) since(number int64) (pollResult, error) {
+// changesSince returns the changes after the one with a number, and the time of that one, or 0 if there is no such change.
+func (t *table) changesSince(number int64) (pollResult, error) {
 	result := pollResult{storeState: t.state}
 	if number > 0 && number <= t.state.changes {
-		result.first = t.news[number-1].token
+		result.first = t.changes[number-1].token
 	}
 	for place := number; place < t.state.changes; place++ {
-		if each := t.news[place]; each.ended != nil {
+		if each := t.changes[place]; each.ended != nil {
 			result.ended = append(result.ended, *each.ended)
 		} else {
 			result.changed = append(result.changed, []byte(each.keyDigest))
@@ -92,8 +97,8 @@ func (t *table) since(number int64) (pollResult, error) {
 	return result, t.fault
 }
 
-// whole returns the ended certificates of the table, and the state.
-func (t *table) whole() (pollResult, error) {
+// allEnded returns the ended certificates of the table, and the state.
+func (t *table) allEnded() (pollResult, error) {
 	return pollResult{storeState: t.state, ended: t.ended}, t.fault
 }
 
@@ -154,7 +159,7 @@ func (s *storedSite) entryOf(who person) string {
 	return "(5:entry" + who.key + propagates + "(3:tag" + prefix("read", "/web/") + "))"
 }
 
-// beat adds a beat to the table at the time of the store's clock, and has the store poll.
+// beat adds a beat to the table at the time of the store's clock, and has the store poll. The store keeps the error of the poll, so it is not returned.
 func (s *storedSite) beat() {
 	s.table.state.beat++
 	s.table.state.beaten = s.time.UnixMicro()
@@ -169,8 +174,8 @@ func (s *storedSite) expect(t *testing.T, name string, wanted int) {
 	}
 }
 
-// TestStoreDecides asks by a list in a store, in which entries are added and removed, and certificates end. Rows are read once, until a poll finds that they
-// have changed. The log has the number of an entry in the store, and that of the store's last change.
+// TestStoreDecides asks by a list in a store. Rows that were read are kept, and not read again. The log has the number of an entry in the store, and
+// that of the store's last change.
 func TestStoreDecides(t *testing.T) {
 	s := newStored(t)
 	bobs, carols := s.sequencesShown()
@@ -194,6 +199,15 @@ func TestStoreDecides(t *testing.T) {
 	s.expect(t, "Alice again", 200)
 	if s.table.reads != reads {
 		t.Error("rows that are kept are read again")
+	}
+}
+
+// TestStoreChanges has entries added and removed, and a certificate end, while rows for Alice's key are kept: each change counts once it was polled.
+func TestStoreChanges(t *testing.T) {
+	s := newStored(t)
+	bobs, _ := s.sequencesShown()
+	if response := s.askAs(s.bob, "GET", "/web/docs/b", bobs); response.StatusCode != 200 {
+		t.Errorf("Bob: %d", response.StatusCode)
 	}
 	s.table.put(9, s.alice.key, s.entryOf(s.alice))
 	s.table.put(7, s.alice.key, "")
@@ -281,59 +295,83 @@ func TestStoreThatGoesBack(t *testing.T) {
 	s.table.meanwhile = func() { s.table.put(7, s.alice.key, ""); s.beat() }
 	s.expect(t, "rows of the moment before", 200)
 	s.expect(t, "rows after the removal", 401)
-	// (a server that lost the removal, and then had another change)
-	s.table.news, s.table.state.changes = s.table.news[:2], 2
+	// (a server that lost the third change, the removal, and then had another third one, at another time)
+	s.table.changes, s.table.state.changes = s.table.changes[:2], 2
 	s.table.put(7, s.alice.key, s.entryOf(s.alice))
-	s.table.news[2].token, s.table.state.token = 1000, 1000
+	s.table.changes[2].token, s.table.state.token = 1000, 1000
 	s.beat()
 	s.expect(t, "another history", 200)
 }
 
-// TestStoredChains leaves certificates in a store, where another daemon finds them. What was read is used again for cachedFor. Where the store does not
-// answer, the answer is 503 and neither yes nor no.
-func TestStoredChains(t *testing.T) {
+// newStoredWithChains returns a storedSite at which clients can leave certificates, which its table keeps.
+func newStoredWithChains(t *testing.T) *storedSite {
+	t.Helper()
 	s := newStored(t, `, "chains": {"postgres": {"host": "/run", "database": "d", "user": "u"}}`+withSignatures)
 	s.table.kept = map[digest][]keptChain{}
-	limits := s.config.Chains
-	s.chains = newStoredChains(limits, s.table)
+	s.forgetChains()
+	return s
+}
+
+// forgetChains has the site cache no sequences of its table any more, as after a start of the daemon.
+func (s *storedSite) forgetChains() {
+	s.chains = newStoredChains(s.config.Chains, s.table)
+}
+
+// expectKept has Bob ask without showing certificates, and reports an error, which begins with `name`, unless the status is the one that is wanted.
+// `kept` is what the log must have: `used` if certificates that he has left grant the request, and otherwise an empty text.
+func (s *storedSite) expectKept(t *testing.T, name string, wanted int, kept string) {
+	t.Helper()
+	if status := s.statusFor(s.bob, "/web/docs/b", ""); status != wanted || s.lastLine(t).Kept != kept {
+		t.Errorf("%s: %d %+v", name, status, s.lastLine(t))
+	}
+}
+
+// expectLeft has Bob leave his certificate, and reports an error, which begins with `name`, unless the answer is the one that is wanted.
+func (s *storedSite) expectLeft(t *testing.T, name string, wanted answer) {
+	t.Helper()
 	bobs, _ := s.sequencesShown()
-	asks := func(name string, wanted int, kept string) {
-		t.Helper()
-		if status := s.statusFor(s.bob, "/web/docs/b", ""); status != wanted || s.lastLine(t).Kept != kept {
-			t.Errorf("%s: %d %+v", name, status, s.lastLine(t))
-		}
+	if _, reply := s.leaves(t, s.bob, bobs); reply != wanted {
+		t.Errorf("%s: %q", name, reply)
 	}
-	leaves := func(name string, wanted answer) {
-		t.Helper()
-		if _, reply := s.leaves(t, s.bob, bobs); reply != wanted {
-			t.Errorf("%s: %q", name, reply)
-		}
-	}
-	asks("nothing is kept", 401, "")
-	leaves("kept", answerKept)
-	asks("used", 200, "used")
+}
+
+// TestStoredChains leaves certificates in a store, where another daemon finds them until they end. What was read is used again for cachedFor.
+func TestStoredChains(t *testing.T) {
+	s := newStoredWithChains(t)
+	s.expectKept(t, "nothing is kept", 401, "")
+	s.expectLeft(t, "kept", answerKept)
+	s.expectKept(t, "used", 200, "used")
 	reads := s.table.reads
-	asks("used again", 200, "used")
+	s.expectKept(t, "used again", 200, "used")
 	if s.table.reads != reads {
 		t.Errorf("read %d times", s.table.reads-reads)
 	}
-	s.store.kept.drop(digestsOf([]byte(s.alice.key))[1])
-	s.table.fault = errors.New("the server is gone")
-	asks("without the entries for the issuer", 503, "")
-	s.table.fault = nil
-	other := newStoredChains(limits, s.table)
-	if chains, err := other.currentOf(hexDigest([]byte(s.bob.key)), s.now()); err != nil || len(chains) != 1 || chains[0].text != bobs {
+	bobs, _ := s.sequencesShown()
+	other, bobsKey := newStoredChains(s.config.Chains, s.table), hexDigest([]byte(s.bob.key))
+	if chains, err := other.currentOf(bobsKey, s.now()); err != nil || len(chains) != 1 || chains[0].text != bobs {
 		t.Errorf("%v %v", chains, err)
 	}
-	s.table.fault = errors.New("the server is gone")
-	s.chains = newStoredChains(limits, s.table)
-	asks("neither yes nor no", 503, "")
-	leaves("shown, and not kept", answerFailed)
-	s.table.fault, s.table.keepAnswer, s.table.kept = nil, answerYes, map[digest][]keptChain{}
-	leaves("an answer that the store never gives", answerFailed)
-	if chains, err := other.currentOf(hexDigest([]byte(s.bob.key)), s.now().AddDate(1, 0, 0)); err != nil || chains != nil {
+	if chains, err := other.currentOf(bobsKey, s.now().AddDate(1, 0, 0)); err != nil || chains != nil {
 		t.Errorf("a year later: %v %v", chains, err)
 	}
+}
+
+// TestStoredChainsThatAreNotRead has the store not answer: the answer to a request that may be granted by certificates in it is 503, and neither yes
+// nor no, and that to certificates that are left is `failed`. So is that where the store gives an answer that it should never give.
+func TestStoredChainsThatAreNotRead(t *testing.T) {
+	s := newStoredWithChains(t)
+	s.expectLeft(t, "kept", answerKept)
+	s.expectKept(t, "used", 200, "used")
+	// (the sequence is cached, and the entries for Alice, who has issued the certificate, must be read. The second digest of a key is that by
+	// SHA-256)
+	s.store.kept.drop(digestsOf([]byte(s.alice.key))[1])
+	s.table.fault = errors.New("the server is gone")
+	s.expectKept(t, "without the entries for the issuer", 503, "")
+	s.forgetChains()
+	s.expectKept(t, "without the sequences", 503, "")
+	s.expectLeft(t, "not kept", answerFailed)
+	s.table.fault, s.table.keepAnswer, s.table.kept = nil, answerYes, map[digest][]keptChain{}
+	s.expectLeft(t, "an answer that the store never gives", answerFailed)
 }
 
 // TestHostileRows reads rows that are not exactly one entry, or are too long, beside a right one: Alice is not granted anything then. An empty text takes the
@@ -409,8 +447,8 @@ func TestStoreConfigs(t *testing.T) {
 	}
 }
 
-// TestKeptRows adds five lists where there is room for three, and asks for the first each time: it stays, and so do the last two. Then it removes one by its
-// digest, and then all.
+// TestKeptRows adds five lists without entries where there is room for three, and asks for the first each time: it stays, and so do the last two.
+// Then it removes one by its digest, and then all.
 func TestKeptRows(t *testing.T) {
 	s := newStored(t)
 	rows := newKeptRows(3 * octetsRow)
@@ -421,7 +459,8 @@ func TestKeptRows(t *testing.T) {
 			t.Fatal(err)
 		}
 		names[number][0] = byte(number)
-		rows.add(names[number], [][]byte{{byte(number)}}, &list{guard: opened}, 0)
+		const octetsOfEntries = 0
+		rows.add(names[number], [][]byte{{byte(number)}}, &list{guard: opened}, octetsOfEntries)
 		rows.get(names[0])
 	}
 	for number, wanted := range []bool{true, false, false, true, true} {
@@ -429,6 +468,7 @@ func TestKeptRows(t *testing.T) {
 			t.Errorf("list %d", number)
 		}
 	}
+	// (the only digest of the list with the number 3)
 	rows.drop([]byte{3})
 	if rows.get(names[3]) != nil || rows.count() != 2 || rows.size != 2*octetsRow || len(rows.byDigest) != 2 {
 		t.Errorf("%d lists of %d octets", rows.count(), rows.size)
@@ -439,7 +479,7 @@ func TestKeptRows(t *testing.T) {
 	}
 }
 
-// hexOf returns the octets that hexadecimal digits mean, and ends the test if they cannot be decoded.
+// hexOf returns the octets that hexadecimal digits stand for, and ends the test if they cannot be decoded.
 func hexOf(t *testing.T, digits string) []byte {
 	t.Helper()
 	octets, err := hex.DecodeString(digits)

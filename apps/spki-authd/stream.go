@@ -1,5 +1,7 @@
 package main
 
+// Standard output and standard error, to which lines and events are written.
+
 import (
 	"encoding/json"
 	"io"
@@ -23,8 +25,8 @@ func (s *stream) write(lines []byte) error {
 	return err
 }
 
-// tell offers the writer the line of an event. That the line cannot be written is no error.
-func (w *writer) tell(message event) {
+// offerEvent offers the writer the line of an event. That the line cannot be written is no error.
+func (w *writer) offerEvent(message event) {
 	if line, err := json.Marshal(message); err == nil {
 		w.offer(append(line, '\n'))
 	}

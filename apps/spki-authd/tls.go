@@ -1,5 +1,7 @@
 package main
 
+// The daemon's TLS certificate, for a port.
+
 import (
 	"crypto/tls"
 	"fmt"

@@ -1,5 +1,8 @@
 package main
 
+// Tests of a daemon at a port. There it shows a TLS certificate, which the web server compares with the one that it expects, and the web server sends
+// a secret: so neither can be another program. The daemon's certificate is that of Alice, for whom its list has an entry.
+
 import (
 	"bytes"
 	"crypto/tls"
@@ -12,6 +15,7 @@ import (
 	"path/filepath"
 	"strings"
 	"testing"
+	"time"
 )
 
 // tlsFiles writes the certificate and the key of a person for TLS, and returns their paths.
@@ -24,7 +28,8 @@ func tlsFiles(t *testing.T, who person) (certificate, key string) {
 	return writeFile(t, "crt", who.pem()), writeFile(t, "key", string(pem.EncodeToMemory(&pem.Block{Type: "PRIVATE KEY", Bytes: octets})))
 }
 
-// tlsConfig returns the configuration of a daemon at a free port, with the certificate of a person, to whom its list gives each right.
+// tlsConfig returns the configuration of a daemon at a free port, with the certificate of a person, whom its list gives the right to each file. The
+// secret is 32 times `s`.
 func tlsConfig(t *testing.T, who person) string {
 	t.Helper()
 	listener, err := net.Listen("tcp", "127.0.0.1:0")
@@ -99,7 +104,8 @@ func TestTLS(t *testing.T) {
 	}
 }
 
-// TestCertificatesAreReadAgain reloads a configuration with another certificate. What is refused changes nothing.
+// TestCertificatesAreReadAgain reloads a configuration with another certificate, which is shown from then on. A reload that is refused, for a wrong
+// key or list, leaves the certificate as it was.
 func TestCertificatesAreReadAgain(t *testing.T) {
 	alice, mallory := newPerson(t), newPerson(t)
 	config, err := parseConfig([]byte(tlsConfig(t, alice)))
@@ -108,28 +114,28 @@ func TestCertificatesAreReadAgain(t *testing.T) {
 	}
 	var keeper accessKeeper
 	shown := func() []byte { return config.TLS.present.Load().Certificate[0] }
-	if err := keeper.reload(config, false, newSite(t, "").now()); err != nil || !bytes.Equal(shown(), alice.der) {
+	if err := keeper.reload(config, !allowFewerEnded, time.Now()); err != nil || !bytes.Equal(shown(), alice.der) {
 		t.Fatal(err)
 	}
 	config.TLS.Certificate, _ = tlsFiles(t, mallory)
-	if err := keeper.reload(config, false, newSite(t, "").now()); err == nil || !bytes.Equal(shown(), alice.der) {
+	if err := keeper.reload(config, !allowFewerEnded, time.Now()); err == nil || !bytes.Equal(shown(), alice.der) {
 		t.Error("a certificate of another key is shown")
 	}
 	config.TLS.Certificate, config.TLS.Key = tlsFiles(t, mallory)
 	list := config.List
 	config.List = filepath.Join(t.TempDir(), "none")
-	if err := keeper.reload(config, false, newSite(t, "").now()); err == nil || !bytes.Equal(shown(), alice.der) {
+	if err := keeper.reload(config, !allowFewerEnded, time.Now()); err == nil || !bytes.Equal(shown(), alice.der) {
 		t.Error("a refused reload has changed the certificate")
 	}
 	config.List = list
-	if err := keeper.reload(config, false, newSite(t, "").now()); err != nil || !bytes.Equal(shown(), mallory.der) {
+	if err := keeper.reload(config, !allowFewerEnded, time.Now()); err != nil || !bytes.Equal(shown(), mallory.der) {
 		t.Error(err)
 	}
 	if err := os.Chmod(config.TLS.Key, 0o644); err != nil {
 		t.Fatal(err)
 	}
 	if _, err := config.TLS.read(); err == nil {
-		t.Error("a key that everyone may read is one")
+		t.Error("a key that everyone may read is accepted")
 	}
 }
 
@@ -139,6 +145,8 @@ func TestListenSettings(t *testing.T) {
 	files := `"tls": {"certificate": "/c", "key": "/k"}`
 	secret := `"secret_file": "/s"`
 	control := `"control": "unix:/run/x/control"`
+	// (one octet too long, and as long as may be but for the path of the control socket, which has controlSuffix behind it)
+	long, longControl := "unix:/"+strings.Repeat("x", mostSocketPath), "unix:/"+strings.Repeat("x", mostSocketPath-len(controlSuffix))
 	listen := func(address string, fields ...string) string {
 		return strings.Replace(leastWith(strings.Join(fields, ", ")), "unix:/run/x/s", address, 1)
 	}
@@ -155,7 +163,7 @@ func TestListenSettings(t *testing.T) {
 		listen("tls:127.0.0.1:9180", `"tls": {"certificate": "/c"}`, secret, control): `"tls" is missing`,
 		listen("tls:127.0.0.1:9180", files, secret):                                   `"control"`, listen("tls:192.0.2.1:9180", files, secret, control): "must be",
 		listen("tls:localhost:9180", files, secret, control): "must be", leastWith(files): `"tls" is for a port`,
-		listen("unix:/"+strings.Repeat("x", 107), `"cache": 1`): "at most 107 octets", listen("unix:/"+strings.Repeat("x", 100), `"cache": 1`): `"control"`,
+		listen(long, `"cache": 1`): "at most 107 octets", listen(longControl, `"cache": 1`): `"control"`,
 		leastWith(`"control": "unix:/run/x/s"`): `another one than "listen"`, leastWith(`"control": "/run/x/c"`): "unix:/PATH",
 	} {
 		if _, err := parseConfig([]byte(text)); err == nil || !strings.Contains(err.Error(), wanted) {
@@ -164,7 +172,8 @@ func TestListenSettings(t *testing.T) {
 	}
 }
 
-// TestOtherCertificate has a client that expects one certificate and is shown another one: the secret is not sent.
+// TestOtherCertificate has the client of -health expect Alice's certificate, where another program shows Mallory's: it fails, and does not send the
+// secret.
 func TestOtherCertificate(t *testing.T) {
 	alice, mallory := newPerson(t), newPerson(t)
 	config, err := parseConfig([]byte(tlsConfig(t, alice)))
@@ -172,11 +181,11 @@ func TestOtherCertificate(t *testing.T) {
 		t.Fatal(err)
 	}
 	certificate, key := tlsFiles(t, mallory)
-	own, err := tls.LoadX509KeyPair(certificate, key)
+	mallorys, err := tls.LoadX509KeyPair(certificate, key)
 	if err != nil {
 		t.Fatal(err)
 	}
-	listener, err := tls.Listen("tcp", strings.TrimPrefix(config.Listen, tlsScheme), &tls.Config{Certificates: []tls.Certificate{own}})
+	listener, err := tls.Listen("tcp", strings.TrimPrefix(config.Listen, tlsScheme), &tls.Config{Certificates: []tls.Certificate{mallorys}})
 	if err != nil {
 		t.Fatal(err)
 	}

@@ -1,5 +1,8 @@
 package main
 
+// A writer: it writes lines to a sink, such as a file, by one goroutine, so that a disk that hangs blocks no answer. Lines that come while it writes
+// wait in batches.
+
 import (
 	"errors"
 	"runtime"
@@ -86,8 +89,9 @@ func newWriter(to sink, patience time.Duration, eachSecond func()) *writer {
 // write writes a line, which ends with a line feed, and returns when it is written. If it fails with errHangs, the line may still be written later, and with
 // another error it is not. The caller may use the line's octets again in each case.
 func (w *writer) write(line []byte) error {
+	const isKept = false
 	w.mutex.Lock()
-	batch := w.add(line, false)
+	batch := w.add(line, isKept)
 	w.mutex.Unlock()
 	<-batch.done
 	return batch.err
@@ -102,7 +106,8 @@ func (w *writer) offer(line []byte) {
 		w.dropped.Add(1)
 		return
 	}
-	batch := w.add(line, true)
+	const isKept = true
+	batch := w.add(line, isKept)
 	w.mutex.Unlock()
 	if !w.isStuck.Load() {
 		<-batch.done
@@ -167,6 +172,7 @@ func (w *writer) endLate() {
 	remaining := w.waiting[:0]
 	for _, batch := range w.waiting {
 		batch.isFull = batch.isFull || !batch.isKept
+		// (giveUp says whether a late batch is still to be written)
 		if batch.begun.After(late) || w.giveUp(batch) {
 			remaining = append(remaining, batch)
 			continue
@@ -200,9 +206,9 @@ func (b *batch) end(err error) {
 	}
 }
 
-// do has the writer's goroutine call a function between two writes, and says whether that returned within the patience. If not, the function was not and
-// will not be called, or it is still running.
-func (w *writer) do(command func()) bool {
+// callBetweenWrites has the writer's goroutine call a function between two writes, and says whether that returned within the patience. If not, the
+// function was not and will not be called, or it is still running.
+func (w *writer) callBetweenWrites(command func()) bool {
 	patience := time.NewTimer(w.patience)
 	defer patience.Stop()
 	done := make(chan struct{})
@@ -221,13 +227,13 @@ func (w *writer) do(command func()) bool {
 
 // flush writes the lines that wait, and returns when that is done, or after the patience.
 func (w *writer) flush() {
-	w.do(func() {
+	w.callBetweenWrites(func() {
 		for w.writeNext() {
 		}
 	})
 }
 
-// run is the writer's goroutine: it writes the lines that wait, and calls eachSecond and the functions of do. It never ends.
+// run is the writer's goroutine: it writes the lines that wait, and calls eachSecond and the functions of callBetweenWrites. It never ends.
 func (w *writer) run() {
 	var beats <-chan time.Time
 	if w.eachSecond != nil {

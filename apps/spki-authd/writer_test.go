@@ -1,5 +1,8 @@
 package main
 
+// Tests of the writer, which passes lines to a sink, such as a file or a stream, by one goroutine. Its `write` fails if its line is not written in
+// time. Its `offer` never fails: such a line may be dropped.
+
 import (
 	"bytes"
 	"errors"
@@ -29,17 +32,19 @@ func (h *hangingSink) write(lines []byte) error {
 func TestSinkThatHangs(t *testing.T) {
 	sink := &hangingSink{released: make(chan struct{})}
 	writer := newWriter(sink, 20*time.Millisecond, nil)
+	// (the sink has the first line, and takes it later. The second one waits behind it, and is never written)
 	if err := writer.write([]byte("first\n")); !errors.Is(err, errHangs) {
 		t.Error(err)
 	}
 	if err := writer.write([]byte("given up\n")); !errors.Is(err, errHangs) {
 		t.Error(err)
 	}
-	for line := 0; line < mostQueued+100; line++ {
+	const tooMany = 100
+	for line := 0; line < mostQueued+tooMany; line++ {
 		writer.offer([]byte("line\n"))
 	}
 	// (one more or less, if the writer takes a line meanwhile)
-	if dropped := writer.dropped.Load(); dropped < 99 || dropped > 101 {
+	if dropped := writer.dropped.Load(); dropped < tooMany-1 || dropped > tooMany+1 {
 		t.Errorf("%d are dropped", dropped)
 	}
 	close(sink.released)
@@ -59,14 +64,15 @@ func TestSinkThatHangs(t *testing.T) {
 
 // TestManyLines writes lines by several goroutines at once. Each is there once, and whole.
 func TestManyLines(t *testing.T) {
+	const routines, linesEach = 8, 500
 	var text bytes.Buffer
 	writer := newWriter(&stream{to: &text}, time.Minute, nil)
 	var all sync.WaitGroup
-	for routine := 0; routine < 8; routine++ {
+	for routine := 0; routine < routines; routine++ {
 		all.Add(1)
 		go func(routine int) {
 			defer all.Done()
-			for line := 0; line < 500; line++ {
+			for line := 0; line < linesEach; line++ {
 				if err := writer.write([]byte(fmt.Sprintf("%d-%d\n", routine, line))); err != nil {
 					t.Error(err)
 				}
@@ -78,16 +84,16 @@ func TestManyLines(t *testing.T) {
 	for _, line := range strings.Split(strings.TrimSuffix(text.String(), "\n"), "\n") {
 		seen[line] = true
 	}
-	if len(seen) != 4000 || writer.written.Load() != 4000 {
+	if len(seen) != routines*linesEach || writer.written.Load() != routines*linesEach {
 		t.Errorf("%d lines", len(seen))
 	}
 }
 
-// TestTimeOfLines writes lines by many goroutines, some of them later, to a sink that takes none. Each call fails within its patience, also that whose line
-// is being written, and none before the patience is nearly over: all of them count as failed. A line that waits then is not written, and lines that come
-// afterwards are.
+// TestTimeOfLines writes lines by many goroutines, some of them later, to a sink that takes none. Each call fails within its patience, also that
+// whose line is being written, and none before the patience is nearly over: all of them count as failed. A line that waits then is not written. Once
+// the sink takes lines, the first line is written, and so are those that come afterwards.
 func TestTimeOfLines(t *testing.T) {
-	const patience = time.Second
+	const patience, lateLines, linesAfter = time.Second, 64, 100
 	sink := &hangingSink{released: make(chan struct{})}
 	writer := newWriter(sink, patience, nil)
 	var all sync.WaitGroup
@@ -106,11 +112,11 @@ func TestTimeOfLines(t *testing.T) {
 	for writer.taken() == 0 {
 		time.Sleep(time.Millisecond)
 	}
-	// (over half of the patience: so each of these waits behind the first, and is late at another time)
-	for line := 0; line < 64; line++ {
+	// (these begin over half of the patience: so each waits behind the first line, and is late at another time)
+	for line := 0; line < lateLines; line++ {
 		all.Add(1)
 		go writeLate("given up\n")
-		time.Sleep(patience / 128)
+		time.Sleep(patience / (2 * lateLines))
 	}
 	all.Wait()
 	if !writer.isStuck.Load() || writer.written.Load() != 0 {
@@ -118,13 +124,13 @@ func TestTimeOfLines(t *testing.T) {
 	}
 	close(sink.released)
 	wanted := "first\n"
-	for line := 0; line < 100; line++ {
+	for line := 0; line < linesAfter; line++ {
 		wanted += "later\n"
 		if err := writer.write([]byte("later\n")); err != nil {
 			t.Fatal(err)
 		}
 	}
-	if text := sink.text.String(); text != wanted || writer.isStuck.Load() || writer.written.Load() != 101 || writer.failed.Load() != 65 {
+	if text := sink.text.String(); text != wanted || writer.isStuck.Load() || writer.written.Load() != 1+linesAfter || writer.failed.Load() != 1+lateLines {
 		t.Errorf("%d written, %d failed: %.100q", writer.written.Load(), writer.failed.Load(), text)
 	}
 }
@@ -159,7 +165,7 @@ func TestOrderOfLines(t *testing.T) {
 	}
 }
 
-// taken returns the number of lines that are being written.
+// taken returns the number of lines that are being written, all in one batch.
 func (w *writer) taken() int {
 	w.mutex.Lock()
 	defer w.mutex.Unlock()
@@ -204,7 +210,7 @@ func TestCutLines(t *testing.T) {
 	if stream.write([]byte("two\n")) == nil || stream.write([]byte("three\n")) == nil {
 		t.Error("a full stream takes lines")
 	}
-	disk.room = 100
+	disk.room = len("\nfour\n")
 	if err := stream.write([]byte("four\n")); err != nil {
 		t.Error(err)
 	}
@@ -213,7 +219,7 @@ func TestCutLines(t *testing.T) {
 	}
 }
 
-// TestReaderThatIsGone writes to a pipe that nobody reads any more: the line is counted as lost.
+// TestReaderThatIsGone writes a line to a pipe that is read, and one after its reader is gone: that line counts as failed, and the daemon goes on.
 func TestReaderThatIsGone(t *testing.T) {
 	reader, pipe, err := os.Pipe()
 	if err != nil {
