@@ -38,7 +38,8 @@ def output_on_machine(packages: list[str], clone: str, by_root: str, script: str
     """Makes a machine with these packages and a copy of the folder `clone`, and runs two scripts there: root runs `by_root` in the copy, then a user
     runs `script` in an empty folder. Returns all that they write. Raises CalledProcessError if the machine is not made or `by_root` fails."""
     with tempfile.TemporaryDirectory() as room:
-        for name, text in (("by-root", by_root), ("script", script)):
+        # (mmdebstrap may fail before a hook writes to `output`, which is read in any case)
+        for name, text in (("by-root", by_root), ("script", script), ("output", "")):
             with open(os.path.join(room, name), "w", encoding="utf-8") as file:
                 file.write(text)
         into = f">> {room}/output 2>&1 < /dev/null"

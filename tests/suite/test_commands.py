@@ -14,6 +14,7 @@ import tempfile
 import unittest
 from collections.abc import Callable, Iterable
 from typing import NamedTuple
+from unittest import mock
 
 from harness import built, machines, needs, page_commands
 from harness.page_commands import NOT_RUN, Command, tracked
@@ -215,6 +216,14 @@ class OnMachines(built.OfLibrary):
 def machine_test(machine: Machine) -> Callable[[OnMachines], None]:
     """A test method for a page, which is added to OnMachines for the long tests."""
     return lambda self: self.check_page(machine)
+
+
+class NoMachine(unittest.TestCase):
+    def test_log_of_failed_mmdebstrap(self) -> None:
+        """If mmdebstrap fails before it runs a script, its log is in the exception."""
+        with mock.patch.object(machines, "output_of", return_value=(1, "no server")), self.assertRaises(subprocess.CalledProcessError) as caught:
+            machines.output_on_machine([], clone="", by_root="", script="")
+        self.assertIn("no server", caught.exception.output)
 
 
 class OfToolchain(unittest.TestCase):
