@@ -5,6 +5,7 @@
 - Several clients add and remove entries at the same time, and ask in between: an entry that was added grants, and one that was removed does not.
 
 The store is on a server in a temporary folder. `tests/suite/test_store.py` asks the same of the daemon, and kills servers."""
+import contextlib
 import hashlib
 import os
 import random
@@ -154,22 +155,24 @@ def agrees_with_whole_list(store, seed, policy):
 
 
 def fault_of_client(connect, place):
-    """Adds and removes entries of a key of its own, two in each round, of which one grants, and asks in between. `connect` connects to the store, and
-    `place` is the number of the client. Returns what was wrong, or None."""
-    store, own = connect(), key_of(b"client%d" % place)
-    service, asked = entries.Service(store), question(b"(sequence)", own)
-    for turn in range(ROUNDS):
-        principal = canonical(own if turn % 2 else hash_of(own))
-        if service.decide(asked, is_right) is not None:
-            return f"client {place}: a yes before entry {turn} is added"
-        useless = store.add(entries.entry(principal, b"(tag (packages write))"))
-        number = store.add(entries.entry(principal, TAG))
-        if service.decide(asked, is_right) != number:
-            return f"client {place}: no yes by entry {number}"
-        if not store.remove(number) or service.decide(asked, is_right) is not None:
-            return f"client {place}: a yes after entry {number} was removed"
-        store.remove(useless)
-    store.close()
+    """In each of ROUNDS rounds adds two entries for a key that only this client uses, of which one grants, and removes them. Asks a question of this
+    key before, between and after. `connect()` returns the store by a new connection. `place` is the number of the client, from 0. Returns the first
+    fault that it finds, as a text, or None."""
+    key = key_of(b"client%d" % place)
+    asked = question(b"(sequence)", key)
+    with contextlib.closing(connect()) as store:
+        service = entries.Service(store)
+        for turn in range(ROUNDS):
+            principal = canonical(key if turn % 2 else hash_of(key))
+            if service.decide(asked, is_right) is not None:
+                return f"client {place}: a yes before entry {turn} is added"
+            useless = store.add(entries.entry(principal, b"(tag (packages write))"))
+            number = store.add(entries.entry(principal, TAG))
+            if service.decide(asked, is_right) != number:
+                return f"client {place}: no yes by entry {number}"
+            if not store.remove(number) or service.decide(asked, is_right) is not None:
+                return f"client {place}: a yes after entry {number} was removed"
+            store.remove(useless)
     return None
 
 
