@@ -1,7 +1,8 @@
-"""Tests `spki-authd` with a list in PostgreSQL while servers die, are cut from each other, lag behind, have a wrong clock or a full disk.
+"""Tests `spki-authd` with an access list in PostgreSQL (the store) while servers die, are cut from each other, lag behind, have a wrong clock or a
+full disk. The primary is written to, and replicas copy it. A heartbeat writes the time to the primary, so a daemon sees how old a server's state is.
 
 Under each failure of `Questions` 20,000 questions are asked while the list changes. Each answer must be a failure, or that of the guard of the whole
-list as of a moment that is at most `stale_seconds` ago. All are long tests, and those with a network or a disk of their own need root."""
+list as of a moment that is at most `stale_seconds` (STALE) ago. All are long tests. Those with a network or a disk of their own need root."""
 import contextlib
 import os
 import secrets
@@ -21,11 +22,11 @@ import psycopg
 
 # How many seconds something fails: longer than a state may be old.
 FAILING = STALE + 2
-# Settings of PostgreSQL: its own, short waits for a server that is gone, and a small log. And the MiB of a small disk.
-USUAL: dict[str, str] = {}
-SHORT = {"wal_receiver_timeout": "2s", "wal_sender_timeout": "2s", "wal_retrieve_retry_interval": "200ms"}
-SMALL = {"min_wal_size": "32MB", "max_wal_size": "48MB", "wal_keep_size": "0"}
-MIB = 160
+# Settings of PostgreSQL: its defaults, short waits for a server that is gone, and a small log. And the MiB of a small disk.
+DEFAULTS: dict[str, str] = {}
+SHORT_WAITS = {"wal_receiver_timeout": "2s", "wal_sender_timeout": "2s", "wal_retrieve_retry_interval": "200ms"}
+SMALL_LOG = {"min_wal_size": "32MB", "max_wal_size": "48MB", "wal_keep_size": "0"}
+SMALL_DISK = 160
 
 
 def execute(server: Server, *statements: str) -> None:
@@ -50,17 +51,17 @@ def fill(folder: str) -> str:
 
 
 def kill_twice(server: Server) -> None:
-    """Kills a server two times, and each time starts it again after FAILING seconds."""
+    """Kills a server two times, and each time starts it again after FAILING seconds. Returns a second after the last start."""
     for _ in range(2):
         server.kill()
         time.sleep(FAILING)
         server.start()
-        # (so that some questions are asked before the next time)
+        # (so that some questions are answered before the next time)
         time.sleep(1)
 
 
 def cut_twice(node: networks.Node) -> None:
-    """Cuts a node from its network two times, each time for FAILING seconds, and waits as long behind each."""
+    """Cuts a node from its network two times, each time for FAILING seconds, and waits FAILING seconds after each."""
     for _ in range(2):
         node.cut()
         time.sleep(FAILING)
@@ -80,9 +81,9 @@ class WithOwnServers(test_store.OfServed):
         context.__enter__()
         return context
 
-    def primary(self, settings: dict[str, str] = USUAL, at: networks.Node | None = None, mib: int = 0) -> Server:
-        """Starts a server by settings of PostgreSQL, at the node `at` if any, on a disk of `mib` MiB or, for 0, on the usual one. Makes the store of
-        this test there. The table `error` says by how much its clock is wrong: the tests in Go add this to the moment of each heartbeat."""
+    def primary(self, settings: dict[str, str] = DEFAULTS, at: networks.Node | None = None, mib: int = 0) -> Server:
+        """Starts a server by settings of PostgreSQL, at the node `at` if any, on a disk of `mib` MiB or, for 0, on that of this machine. `self.store`
+        is a new store there. Its table `error` says by how much its clock is wrong: the tests in Go add this to the moment of each heartbeat."""
         server = self.enter(Server(at, mib, **settings))
         self.store.close()
         self.store = Store(server.address, self.schema)
@@ -91,8 +92,8 @@ class WithOwnServers(test_store.OfServed):
         execute(server, f"CREATE TABLE {self.schema}.error (by interval)", f"INSERT INTO {self.schema}.error VALUES ('0 s')")
         return server
 
-    def replica(self, primary: Server, settings: dict[str, str] = USUAL, at: networks.Node | None = None, mib: int = 0) -> Server:
-        """Starts a replica of a server by settings of PostgreSQL, at the node `at` if any, on a disk of `mib` MiB or, for 0, on the usual one."""
+    def replica(self, primary: Server, settings: dict[str, str] = DEFAULTS, at: networks.Node | None = None, mib: int = 0) -> Server:
+        """Starts a replica of a server by settings of PostgreSQL. `at` and `mib` are as in `primary`: a node, and the size of a disk of its own."""
         return self.enter(primary.replica(at, mib, **settings))
 
     def network(self, count: int) -> list[networks.Node]:
@@ -125,9 +126,10 @@ class Questions(WithOwnServers):
         golang.go(golang.DAEMON, ["test", *test_store.WITH_DRIVER, "-c", "-o", cls.questions, "."], cls.library).check_returncode()
 
     def ask_while(self, host: str, writers: list[Server], fails: Callable[[], None], *before: str, root: str = "") -> None:
-        """Runs the generated questions of the daemon's tests on the store at a host. A second later calls `fails`, which makes something fail and
-        mends it. The questions go on until it returns, and all answers must be right. The list is changed on the one of `writers` that can be written
-        to. `before` are words before the command. `root` is the path of the certificate that TLS trusts, or empty. Prints the counts of the run."""
+        """Runs the generated questions of the daemon's tests on the store at `host`, a host of libpq. A second later calls `fails`, which makes
+        something fail and mends it. The questions go on until it returns, and all answers must be right. The list is changed on the one of `writers`
+        that can be written to. `before` is a command that runs the questions, as words. `root` is the path of the certificate that TLS trusts, or
+        empty for no TLS. Prints how many answers of each kind there were."""
         end = os.path.join(self.room, "end")
         settings = {**golang.settings(self.library), "SPKI_STORE_HOST": host, "SPKI_STORE_ROOT": root, "SPKI_STORE_SCHEMA": self.schema,
                     "SPKI_STORE_WRITERS": ",".join(each.folder for each in writers), "SPKI_STORE_SEED": str(secrets.randbelow(1 << 32)),
@@ -140,7 +142,7 @@ class Questions(WithOwnServers):
                 try:
                     fails()
                 finally:
-                    self.file(b"", "end")
+                    self.file(b"", "end")  # (the questions end once this file is there)
                 status = process.wait(databases.SECONDS)
             output.seek(0)
             text = output.read().decode()
@@ -159,14 +161,14 @@ class Questions(WithOwnServers):
 
     def test_failover(self) -> None:
         """The primary dies, and the replica that received most takes its place. The second one is asked. It follows the first if that is promoted."""
-        primary = self.primary(SHORT)
+        primary = self.primary(SHORT_WAITS)
         replicas = [self.replica(primary) for _ in range(2)]
         make_synchronous(primary)
 
         def fails() -> None:
             primary.kill()
             time.sleep(FAILING)
-            promoted = replicas[1] if received(replicas[1]) > received(replicas[0]) else replicas[0]
+            promoted = replicas[1] if octets_received(replicas[1]) > octets_received(replicas[0]) else replicas[0]
             promoted.promote()
             if promoted is replicas[0]:
                 test_store.follow(replicas[1], promoted)
@@ -187,7 +189,7 @@ class Questions(WithOwnServers):
         self.ask_while(replica.folder, [primary], fails)
 
     def test_wrong_clock(self) -> None:
-        """The clock of the primary is wrong by some seconds, and jumps. To the daemon this is as if its own clock were wrong."""
+        """The primary's clock is wrong by more and by less than STALE seconds, and jumps. To the daemon this is as if its own clock were wrong."""
         primary = self.primary()
         replica = self.replica(primary)
 
@@ -200,13 +202,13 @@ class Questions(WithOwnServers):
     @needs.needs("ip")
     def test_network_between_servers(self) -> None:
         first, second = self.network(2)
-        primary = self.primary(SHORT, first)
+        primary = self.primary(SHORT_WAITS, first)
         replica = self.replica(primary, at=second)
         self.ask_while(replica.folder, [primary], lambda: cut_twice(second))
 
     @needs.needs("ip")
     def test_network_to_the_store(self) -> None:
-        """The store is read over a network, by TLS."""
+        """The questions are asked at a second node, which reads the store over a network, by TLS. This node is cut off."""
         first, second = self.network(2)
         primary = self.primary(at=first)
         root = self.give_certificate(primary)
@@ -214,7 +216,7 @@ class Questions(WithOwnServers):
 
     @needs.needs("ip")
     def test_full_disk_of_the_primary(self) -> None:
-        primary = self.primary(SMALL, mib=MIB)
+        primary = self.primary(SMALL_LOG, mib=SMALL_DISK)
 
         def fails() -> None:
             filler = fill(primary.folder)
@@ -228,7 +230,7 @@ class Questions(WithOwnServers):
     @needs.needs("ip")
     def test_full_disk_of_a_replica(self) -> None:
         primary = self.primary()
-        replica = self.replica(primary, SMALL, mib=2 * MIB)
+        replica = self.replica(primary, SMALL_LOG, mib=2 * SMALL_DISK)
 
         def fails() -> None:
             filler = fill(replica.folder)
@@ -246,10 +248,11 @@ class Daemons(WithOwnServers):
 
     @needs.needs("ip")
     def test_cut_network_and_failover(self) -> None:
-        """A replica is cut from the primary, a daemon from its replica, and the primary from all others. Then a replica takes its place. The old
-        primary comes back, and its daemon grants nothing for 4 seconds, longer than a state may be old. The daemons are `old`, `near` and `far`."""
+        """The daemon `old` reads the primary, `near` the first replica, and `far` the second one, over a network. The first replica is cut from the
+        primary, `far` from its replica, and the primary from all others. Then the first replica takes its place. The old primary comes back, and
+        `old` grants nothing for 4 seconds, longer than a state may be old."""
         nodes = self.network(4)
-        primary = self.primary(SHORT, nodes[0])
+        primary = self.primary(SHORT_WAITS, nodes[0])
         replicas = [self.replica(primary, at=each) for each in nodes[1:3]]
         make_synchronous(primary)
         root = self.give_certificate(replicas[1])
@@ -261,7 +264,7 @@ class Daemons(WithOwnServers):
         alice, bob = self.people["alice"], self.people["bob"]
         asker = self.start_asker([old, near, far], bob)
         self.add_entry(alice)
-        number = self.add_entry(bob)
+        number_of_bob = self.add_entry(bob)
         test_store.wait_for_all((old, near, far), 200, alice, bob)
         for node, cut, others in ((nodes[1], near, (old, far)), (nodes[3], far, (old, near))):
             node.cut()
@@ -275,7 +278,7 @@ class Daemons(WithOwnServers):
         test_store.follow(replicas[1], replicas[0])
         test_store.wait_for_all((near, far), 200, alice)
         with contextlib.closing(Store(replicas[0].address, self.schema)) as store:
-            store.remove(number)
+            store.remove(number_of_bob)
         removed = time.monotonic()
         test_store.wait_for_all((near, far), 401, bob)
         nodes[0].mend()
@@ -283,13 +286,14 @@ class Daemons(WithOwnServers):
             self.assertEqual([old.status(alice), old.status(bob), near.status(alice), far.status(alice)], [503, 503, 200, 200])
             time.sleep(0.2)
         granted = asker.end()
+        # (no daemon granted Bob's requests longer than STALE seconds after his entry was removed)
         self.assertEqual([begun for begun, _ in granted if begun > removed + STALE], [])
         self.assertTrue(granted)
 
     @needs.needs("ip")
     def test_full_disk_for_entries(self) -> None:
-        """Where the disk of the entries and the log of changes, of 3 MiB, is full, `spki-store` adds nothing and removes nothing, and says so. No
-        change is half done, and the daemon decides by the entries that are there. On a larger disk `spki-store` removes again."""
+        """Where the disk of the tables of entries and of changes, of 3 MiB, is full, `spki-store` adds nothing and removes nothing: it ends with the
+        status 3. No change is half done, and the daemon decides by the entries that are there. On a larger disk `spki-store` removes again."""
         primary, room = self.primary(), tempfile.mkdtemp()
         self.addCleanup(os.rmdir, room)
         databases.mount(room, 3)
@@ -307,12 +311,13 @@ class Daemons(WithOwnServers):
         path = self.file(b"(3:acl" + b"".join(listed) + b")")
         self.assertIn("No space left on device", self.spki_store(3, "import", path))
         fill(room)
+        # (an import adds entries in batches, and some of them had room)
         (count,), = self.store.rows("SELECT count(*) FROM {entries}")
         self.assertTrue(1 < count < len(listed))
         # (some changes still find room in pages of the database, so the disk counts as full after ten failures in a row)
         failed = 0
         while failed < 10:
-            failed = 0 if self.removes(count) else failed + 1
+            failed = 0 if self.is_removed(count) else failed + 1
             count -= 1
         self.spki_store(3, "remove", str(number))
         self.assertEqual((authd.status(alice), authd.status(bob)), (200, 401))
@@ -320,16 +325,16 @@ class Daemons(WithOwnServers):
         self.spki_store(0, "remove", str(number))
         authd.wait_for_status(401, alice)
 
-    def removes(self, number: int) -> bool:
-        """Removes an entry by a new connection. Returns True if it is removed, and False if it was not there or the disk is full."""
+    def is_removed(self, number: int) -> bool:
+        """Removes the entry of this number by a new connection. Returns whether it is removed: it is not if there is none, or the disk is full."""
         with contextlib.closing(Store(self.server.address, self.schema)) as store, contextlib.suppress(psycopg.errors.DiskFull):
             return store.remove(number)
         return False
 
     @needs.needs("ip")
     def test_full_disk_for_the_log(self) -> None:
-        """A primary that has no room for its own log ends, and its daemon answers 503. What it acknowledged before is there afterwards."""
-        self.server = primary = self.primary(SMALL, mib=MIB)
+        """A primary that has no room for its own log ends, and its daemon answers 503. What it acknowledged before is there after the next start."""
+        self.server = primary = self.primary(SMALL_LOG, mib=SMALL_DISK)
         self.start_beat(primary.address)
         self.wait_for_beat()
         authd, alice, bob = self.start_daemon("full", primary), self.people["alice"], self.people["bob"]
@@ -337,7 +342,7 @@ class Daemons(WithOwnServers):
         number = self.add_entry(bob)
         authd.wait_for_status(200, bob)
         filler = fill(primary.folder)
-        # (the log still has room in its last file)
+        # (the log's last file, which has its full size from the beginning, still has room)
         self.spki_store(0, "remove", str(number))
         write_until_it_ends(primary)
         authd.wait_for_status(503, alice)
@@ -349,8 +354,8 @@ class Daemons(WithOwnServers):
         self.assertEqual(authd.status(bob), 401)
 
 
-def received(replica: Server) -> int:
-    """How many octets of the log of PostgreSQL a replica has received."""
+def octets_received(replica: Server) -> int:
+    """How many octets of the log of PostgreSQL a replica has received, counted from the beginning of the log."""
     with psycopg.connect(replica.address) as connection:
         (octets,), = connection.execute("SELECT pg_wal_lsn_diff(pg_last_wal_receive_lsn(), '0/0')::bigint").fetchall()
         return int(octets)
@@ -360,7 +365,7 @@ def write_until_it_ends(server: Server) -> None:
     """Writes to a server whose disk is full, until it has no room for its log and ends. Raises AssertionError if it does not end. Each switch begins
     a new file of the log, if something was logged since the last one, as the number of a transaction is."""
     def is_over() -> bool:
-        with contextlib.suppress(psycopg.Error):
+        with contextlib.suppress(psycopg.Error):  # (the server that ends breaks the connection)
             execute(server, "SELECT pg_switch_wal()", "SELECT txid_current()")
         return server.process is None or server.process.poll() is not None
     waits_for("the server has no room and ends", is_over)
