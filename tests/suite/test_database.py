@@ -57,8 +57,9 @@ def question(sequence, asker, request=REQUEST, moment=NOON):
 # ---- random lists and questions
 
 
-class Maker:
-    """Makes entries and questions about a few keys."""
+class RandomMaker:
+    """Makes random entries and questions about KEYS keys. All parts are values: octets, or a list of values. A choice that is listed twice is made
+    twice as often."""
 
     def __init__(self, seed):
         self.random = random.Random(seed)
@@ -74,7 +75,7 @@ class Maker:
                                             [b"packages", b"write"]])]
 
     def validity(self):
-        """A list of no field, or of one: an end or a beginning of the validity. Both are before NOON, so what has the end is expired."""
+        """A list of no field, or of one: the end or the beginning of the validity. Both dates are before NOON, so what has the end is expired."""
         return self.random.choice([[], [], [], [[b"not-after", b"2026-02-01_00:00:00"]], [[b"not-before", b"2026-02-01_00:00:00"]]])
 
     def entry(self):
@@ -94,7 +95,7 @@ class Maker:
 
     def question(self):
         """A question with up to three certificates in a chain. Some lack a key, have a wrong signature or another request, or are asked by another
-        key. A few have a part that cannot be read, and are refused."""
+        key. A few are refused: they have two values in the place of a sequence, or a key without content."""
         chain = [self.random.choice(self.keys) for _ in range(self.random.randrange(4) + 1)]
         items = [key for key in chain if self.random.random() < 0.95]
         for issuer, subject in zip(chain, chain[1:]):
@@ -104,8 +105,8 @@ class Maker:
         asker = chain[-1] if self.random.random() < 0.9 else self.random.choice(self.keys)
         if self.random.random() < 0.03:
             return question(b"(sequence) (key)", asker)
-        return question([b"sequence", *items], asker if self.random.random() < 0.97 else [b"public-key"],
-                        self.random.choice([*[REQUEST] * 20, *[REQUEST[:2]] * 5, *[(b"packages", b"write")] * 4, ()]))
+        request, = self.random.choices([REQUEST, REQUEST[:2], (b"packages", b"write"), ()], [20, 5, 4, 1])
+        return question([b"sequence", *items], asker if self.random.random() < 0.97 else [b"public-key"], request)
 
 
 def outcome(decide, asked):
@@ -128,9 +129,9 @@ def decider_by_whole_list(store, policy):
 
 
 def agrees_with_whole_list(store, seed, policy):
-    """Adds random entries to a store. Returns whether a service answers random questions as the whole list does, before and after some are removed,
-    and more than 10 with a yes, with a no, and with a refusal. Prints how many there are of each, or the first difference."""
-    maker, counts = Maker(seed), {"yes": 0, "no": 0, "refused": 0}
+    """Adds random entries to a store. Returns whether a service answers random questions as the whole list does, before and after some entries are
+    removed, and more than 10 with a yes, with a no, and with a refusal. Prints how many there are of each, or the first difference."""
+    maker, counts = RandomMaker(seed), {"yes": 0, "no": 0, "refused": 0}
     numbers = []
     for _ in range(ENTRIES):
         principal, fields, names = maker.entry()
@@ -177,7 +178,7 @@ def fault_of_client(connect, place):
 
 
 def faults_of_clients(connect):
-    """What several clients at once find wrong, a text each. `connect` connects to the store."""
+    """What CLIENTS clients at the same time find wrong, a text for each fault. `connect()` returns the store by a new connection."""
     with ThreadPoolExecutor(CLIENTS) as pool:
         return list(filter(None, pool.map(lambda place: fault_of_client(connect, place), range(CLIENTS))))
 
@@ -201,17 +202,16 @@ def entries_refused():
             "a digest of another length": is_refused(entries.entry, b"(hash sha256 abc)", TAG)}
 
 
-class Entries(built.OfLibrary):
-    """What makes no entry is refused before it is in a table."""
-
+class RefusedEntries(built.OfLibrary):
     def test_entries_refused(self):
+        """What makes no entry is refused before it is in a table."""
         for name, was_refused in entries_refused().items():
             with self.subTest(name):
                 self.assertTrue(was_refused)
 
 
-class Stores(built.OfLibrary):
-    """Entries in PostgreSQL. Each test has a schema of its own."""
+class StoresOnServer(built.OfLibrary):
+    """Decisions by entries in PostgreSQL. Each test has an empty store, in a schema of its own."""
 
     @classmethod
     def setUpClass(cls):

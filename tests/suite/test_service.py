@@ -66,6 +66,7 @@ def chain_requests(story: LastingStory) -> Iterator[tuple[str, Sent, bool]]:
         "a certificate is signed by another key": story.sequence(signed(story.to_carol, carol, named=bob)),
         "a key is not shown": story.sequence(good, keys=False), "a certificate has expired": story.sequence(signed(story.ended, bob)),
         "nothing is shown": "(sequence)", "an item is none": "(sequence (certificate))", "it is no sequence": "(key x)",
+        # (with the two of Alice 17, one more than a guard takes)
         "there are too many certificates": story.sequence(good + 14 * f" {good}"),
         "two sequences": tools.canonical(right) + b"(8:sequence)", "no octets": b"", "half a sequence": tools.canonical(right)[:-1],
     }.items():
@@ -100,6 +101,7 @@ def proof_requests(story: LastingStory) -> Iterator[tuple[str, Sent, bool]]:
         "a folded line": (method, target, {**fields, "Signature": fields["Signature"].replace("=:", "=:\r\n ", 1)}),
         "a line without a colon": (method, target, {"X-Odd": "1\r\nodd", **fields}),
         "a body that is not signed": (method, target, {**fields, "Content-Length": "1"}),
+        # (the service in C reads up to 64 fields)
         "70 fields and a body": (method, target, {**fields, **{f"x-{place}": "" for place in range(70)}, "Content-Length": "1"}),
     }.items():
         yield remark, sent, False
@@ -108,6 +110,7 @@ def proof_requests(story: LastingStory) -> Iterator[tuple[str, Sent, bool]]:
 
 def first_line_for(port: int, octets: bytes) -> bytes:
     """The first line of what the service at a port answers to these octets. It is empty if the service answers nothing or breaks the connection."""
+    # (the service may break the connection before it has read all, which raises OSError)
     with socket.create_connection(("127.0.0.1", port), timeout=SECONDS) as client, contextlib.suppress(OSError):
         client.sendall(octets)
         client.shutdown(socket.SHUT_WR)
@@ -122,14 +125,14 @@ def is_granted(port: int, sent: Sent) -> bool:
     return b" 200 " in first_line_for(port, "\r\n".join(lines).encode("latin-1"))
 
 
-# Octets that are no request: what is sent here is never granted.
+# Octets that are no request: a service must not grant them.
 NO_REQUESTS = (b"", b"\r\n\r\n", b"GET\r\n\r\n", b"GET / HTTP/1.1\r\n\r\n", b"GET / HTTP/1.1\r\n: x\r\n\r\n", b"\0" * 99, b"GET " + b"a" * 99_999,
                b"GET / HTTP/1.1\r\nHost: x", b"GET / HTTP/1.1\r\n" + b"a: b\r\n" * 20_000 + b"\r\n")
 
 
 @needs.needs(*needs.LIBRARY)
 class Service(built.OfLibrary):
-    """Sends requests to a service. `path` is that of its access list, and `story` has the keys and certificates."""
+    """The base of tests that send requests to a service. `path` is that of its access list, and `story` has the keys and certificates."""
 
     room: str
     path: str
@@ -144,7 +147,8 @@ class Service(built.OfLibrary):
 
     def check_service(self, *words: str, **settings: str) -> None:
         """The service that these words start must grant the requests of `chain_requests` and `proof_requests` that say so, and no others. It must not
-        start on a wrong list, as one of over 1,048,576 octets. No sanitizer nor valgrind may report. `settings` are more environment variables."""
+        start on a wrong list, as one of over 1,048,576 octets. No sanitizer nor valgrind may report. `settings` are more environment variables. The
+        words start it up to the path of its list."""
         environment = {**os.environ, **settings}
         with open(os.path.join(self.room, "errors"), "w+b") as errors, subprocess.Popen(
                 [*words, self.path, NAME], stdout=subprocess.PIPE, stderr=errors, env=environment) as service:
