@@ -33,8 +33,7 @@ class OfGo(test_bindings.Binding):
     """A test of what is written in Go."""
 
     def go(self, folder: str, *words: str, octets: bytes | None = None, **more: str) -> bytes:
-        """Runs a command of Go in a folder, with these octets as its input and more settings of the environment. It
-        must succeed. Returns its output."""
+        """Runs a command of Go in a folder, with `octets` as input and `more` settings of the environment. It must succeed. Returns its output."""
         done = golang.go(folder, list(words), self.library, octets, **more)
         output = (done.stdout + done.stderr).decode(errors="replace")
         self.assertEqual(done.returncode, 0, f"go {' '.join(words)}: {output[-4000:]}")
@@ -77,11 +76,11 @@ class InGo(OfGo):
         fault = test_bindings.faults_of_answers(asked, [answer + b"\n" for answer in test_bindings.strings_in(written)])
         self.assertEqual(fault, "", fault)
 
-    def test_example(self) -> None:
+    def test_example_decides(self) -> None:
         with tempfile.TemporaryDirectory() as room:
-            to = os.path.join(room, "decide")
-            self.go(golang.MODULE, "build", "-o", to, "./examples/decide")
-            self.check_decisions(to)
+            program = os.path.join(room, "decide")
+            self.go(golang.MODULE, "build", "-o", program, "./examples/decide")
+            self.check_decisions(program)
 
     @needs.needs("pkg-config")
     def test_shared_library(self) -> None:
@@ -97,9 +96,7 @@ class InGo(OfGo):
 
 
 class Authd(OfGo):
-    """The daemon's own tests."""
-
-    def test_daemon(self) -> None:
+    def test_own_tests_of_daemon(self) -> None:
         self.go(golang.DAEMON, "test", "-race", "./...")
 
 
@@ -243,7 +240,8 @@ class Served(OfGo):
             daemon.process.communicate()
 
     def test_keys_of_each_kind(self) -> None:
-        """With keys of each kind, Alice gives Bob the right to read /web/. The daemon grants this, and denies or refuses each other request."""
+        """With keys of each kind, Alice gives Bob the right to read /web/. The daemon grants this by 200. It denies other requests by 403, or 401 if
+        no certificate is shown, and refuses a path with `..` by 400."""
         with tempfile.TemporaryDirectory() as room:
             alices = [Person(room, f"alice-{kind}", kind) for kind in KINDS]
             bobs = [Person(room, f"bob-{kind}", kind) for kind in KINDS]
@@ -263,7 +261,7 @@ class Served(OfGo):
 
     @staticmethod
     def with_wrong_signature(sequence: bytes) -> bytes:
-        """The canonical text of a sequence, a text, after one bit of the last signature's last octet is changed."""
+        """The canonical text of `sequence`, a text, with one bit changed in the last octet of its last signature."""
         items = value_of(sequence)
         # (a signature is `(signature HASH KEY (sig-val (ALGORITHM .. (NAME NUMBER))))`)
         part = items[-1][3][1][-1]
@@ -271,7 +269,7 @@ class Served(OfGo):
         return canonical(items)
 
     def test_reload(self) -> None:
-        """At a reload the list and the digests of ended certificates are read again. If the list is refused, the former ones stay."""
+        """At a reload the list and the digests of ended certificates are read again. If the list is refused, the former list and digests stay."""
         with tempfile.TemporaryDirectory() as room:
             alice, bob = (Person(room, name, "ed25519") for name in ("alice", "bob"))
             text = f"(acl (entry {alice.key} (propagate) (tag (files read))))"

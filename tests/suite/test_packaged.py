@@ -133,7 +133,7 @@ class Packages(built.OfLibrary):
         self.assertNotIn(TOP.encode(), pathlib.Path(program).read_bytes())
 
     def test_stripped(self) -> None:
-        """Nothing is left that is for debuggers. The words that name the logic of the proofs are left, in the daemon those of the library."""
+        """Nothing is left that is for debuggers. The words that name the logic of the proofs are left: in the daemon, those of the library in it."""
         for name, place, source in (("spki", "usr/bin/spki", self.program), (SHARED, f"{PLACE}/libspki_c.so.{INTERFACE}", self.shared),
                                     ("libspki-dev", f"{PLACE}/libspki_c.a", self.library), ("spki-authd", "usr/bin/spki-authd", self.library)):
             left = sections(self.inside(name, place))
@@ -202,8 +202,8 @@ class Packages(built.OfLibrary):
             self.assertEqual(status, 0, output)
             self.assertEqual(sorted(os.listdir(folder)), sorted(os.listdir(self.folder)))
             for file in sorted(os.listdir(folder)):
-                with open(os.path.join(folder, file), "rb") as one, open(os.path.join(self.folder, file), "rb") as other:
-                    self.assertTrue(one.read() == other.read(), f"{file} has other octets")
+                octets, first_octets = (pathlib.Path(each, file).read_bytes() for each in (folder, self.folder))
+                self.assertTrue(octets == first_octets, f"{file} has other octets")
 
     def check_lintian(self, *names: str) -> None:
         """The only error or warning of lintian about packages, for each of them, must be that the license is missing (TAGS_OF_LINTIAN)."""
@@ -236,8 +236,8 @@ class Packages(built.OfLibrary):
         packages = [package for package in listed["packages"] if "packageFileName" in package]
         for package in packages:
             name = package["name"]
-            own = [files[file] for owner, file in related["CONTAINS"] if owner == package["SPDXID"]]
-            digests = {file["fileName"]: {each["algorithm"]: each["checksumValue"] for each in file["checksums"]} for file in own}
+            contained = [files[file] for owner, file in related["CONTAINS"] if owner == package["SPDXID"]]
+            digests = {file["fileName"]: {each["algorithm"]: each["checksumValue"] for each in file["checksums"]} for file in contained}
             self.assertEqual(digests, self.digests(name), name)
             # (as SPDX has it: the SHA-1 of the sorted SHA-1 digests of the files)
             code = hashlib.sha1("".join(sorted(each["SHA1"] for each in digests.values())).encode()).hexdigest()
@@ -275,7 +275,7 @@ class Packages(built.OfLibrary):
 class Scripts(unittest.TestCase):
     """What runs where a package is installed, and what packages.sh refuses."""
 
-    def test_no_maintainer(self) -> None:
+    def test_maintainer_is_required(self) -> None:
         """Without the name and the address of a maintainer, or with an option that is misspelled, no packages are made."""
         rows: list[tuple[list[str], dict[str, str]]] = [
             ([], {}), ([], {"DEBFULLNAME": "Ann"}), ([], {"DEBEMAIL": "ann@conguraki.org"}), (["--maintainer"], {}), (["--maintainer", ""], {}),
@@ -289,15 +289,16 @@ class Scripts(unittest.TestCase):
                 self.assertIn("packages.sh: ", output)
                 self.assertEqual(os.listdir(room), [])
 
-    def test_no_time(self) -> None:
-        """Sources that are no clone need SOURCE_DATE_EPOCH, the time of the files in the packages: without it the status is 2."""
+    def test_time_is_required(self) -> None:
+        """Sources that are no clone of git need SOURCE_DATE_EPOCH, the time of the files in the packages: without it the status is 2."""
         with tempfile.TemporaryDirectory() as room:
             status, output = make_packages(copy_sources(room), "--maintainer", MAINTAINER, os.path.join(room, "made"))
             self.assertEqual((status, "set SOURCE_DATE_EPOCH" in output), (2, True), output)
             self.assertFalse(os.path.exists(os.path.join(room, "made")))
 
     def test_installing_the_daemon(self) -> None:
-        """The script makes the user, opens the configuration's folder to root and this user, and starts nothing. What it runs only prints here."""
+        """The script makes the user, opens the configuration's folder to root and this user, and starts nothing. Programs of these names print their
+        arguments here, and do nothing else."""
         with tempfile.TemporaryDirectory() as room:
             for name in ("adduser", "chown", "chmod", "systemctl", "deb-systemd-invoke", "runuser"):
                 with open(os.path.join(room, name), "w", encoding="ascii") as file:
@@ -332,12 +333,13 @@ class PackagesForArm(built.OfLibrary):
             status, output = make_packages(TOP, "--maintainer", MAINTAINER, "--arm64", room, self.program, self.library)
             self.assertEqual(status, 0, output)
             self.assertEqual(len([name for name in os.listdir(room) if name.endswith(".deb")]), len(FILES) + 2)
-            for name, end, own in ((SHARED, f"so.{INTERFACE}", "so"), ("libspki-dev", "a", "a")):
+            # (the package, and how the library's name ends there and where it was built)
+            for name, end, end_of_built in ((SHARED, f"so.{INTERFACE}", "so"), ("libspki-dev", "a", "a")):
                 package = os.path.join(room, f"{name}_{VERSION}_arm64.deb")
                 self.assertEqual(output_of("dpkg-deb", "-f", package, "Architecture"), (0, "arm64\n"))
                 output_of("dpkg-deb", "-x", package, os.path.join(room, "unpacked"))
                 packed = os.path.join(room, "unpacked", "usr", "lib", "aarch64-linux-gnu", f"libspki_c.{end}")
-                self.assertEqual(self.code(packed), self.code(f"{built.arm().removesuffix('a')}{own}"), end)
+                self.assertEqual(self.code(packed), self.code(f"{built.arm().removesuffix('a')}{end_of_built}"), end)
 
     def code(self, library: str) -> bytes:
         """The code of a library for ARM, as objdump prints it behind the lines with the library's path."""

@@ -1,5 +1,8 @@
 """Tests signed requests: those of `spki-cert request`, by a key's file and by ssh-agent, at a small server that curl asks too; and the verifier in C
-by the table that the bindings read, and by mutations of it, to which it must answer what the verifier in Python answers."""
+of requests. It must answer the rows of the table that the bindings read (`test_spki_http.rows`) as they say, and mutated rows as that in Python does.
+
+A row has a request and the answer: `valid`, or the name of the refusal, such as `nonce-seen`. A request is signed over its method, host, path and
+some fields. The caller of the verifier compares the digest of its body."""
 from __future__ import annotations
 
 import dataclasses
@@ -60,7 +63,6 @@ class Handler(http.server.BaseHTTPRequestHandler):
 
     def log_message(self, *words: object) -> None:
         """Writes no log."""
-        pass
 
 
 class Service(http.server.ThreadingHTTPServer):
@@ -82,8 +84,8 @@ class Service(http.server.ThreadingHTTPServer):
 
 
 @needs.needs("import cryptography")
-class Requests(unittest.TestCase):
-    """Requests that `spki-cert` signs."""
+class SpkiCertRequest(unittest.TestCase):
+    """Requests that `spki-cert request` signs, at a service that a thread of this process runs."""
 
     room: str
 
@@ -98,7 +100,7 @@ class Requests(unittest.TestCase):
         self.service.serve_during(self)
         self.url = f"http://{self.service.name}/a%20b/c?d=e"
 
-    def cert(self, *words: str, wanted: int = 0, **settings: str) -> str:
+    def output(self, *words: str, wanted: int = 0, **settings: str) -> str:
         """Runs `spki-cert` with more `settings` of the environment. Its status must be `wanted`: if that is 0 returns its output, else its errors."""
         done = spki_cert(*words, room=self.room, **settings)
         self.assertEqual(done.returncode, wanted, done.stderr)
@@ -112,23 +114,23 @@ class Requests(unittest.TestCase):
             return answer.status, answer.read()
 
     def test_fields(self) -> None:
-        """The printed fields prove each kind of key, but only once, and only for the method and the body that were given."""
+        """The printed fields prove each kind of key, but only once, and only for the method and the body for which they were made."""
         pathlib.Path(self.room, "body").write_bytes(b"some octets")
         for kind in KINDS:
-            fields = self.cert("request", "--by", kind, self.url)
+            fields = self.output("request", "--by", kind, self.url)
             status, key = self.ask(fields)
             self.assertEqual((status, key[:14]), (200, b"(10:public-key"))
             self.assertEqual(self.ask(fields), (401, b"nonce-seen"))
-            self.assertEqual(self.ask(self.cert("request", "--by", kind, self.url), "HEAD"), (401, b""))
-        put = self.cert("request", "--by", "p256", "--body", "body", self.url)
+            self.assertEqual(self.ask(self.output("request", "--by", kind, self.url), "HEAD"), (401, b""))
+        put = self.output("request", "--by", "p256", "--body", "body", self.url)
         self.assertEqual(self.ask(put, "PUT", b"some octetz"), (401, b"other-digest"))
         self.assertEqual(self.ask(put, "PUT", b"some octets")[0], 200)
 
     def test_chain(self) -> None:
         """The certificates are sent as `spki-cert show --braces` prints them. An empty sequence in their place makes the signature invalid."""
-        self.cert("sign", "--by", "ed25519", "--to", "p256.pub", "--tag", "(files read)", "--days", "9", "-o", "chain.sexp")
-        fields = self.cert("request", "--by", "p256", "--cert", "chain.sexp", self.url)
-        chain = self.cert("show", "--braces", "chain.sexp").strip()
+        self.output("sign", "--by", "ed25519", "--to", "p256.pub", "--tag", "(files read)", "--days", "9", "-o", "chain.sexp")
+        fields = self.output("request", "--by", "p256", "--cert", "chain.sexp", self.url)
+        chain = self.output("show", "--braces", "chain.sexp").strip()
         self.assertIn(f"X-Spki-Sequence: {chain}\n", fields)
         self.assertEqual(self.ask(fields.replace(chain, "{KDg6c2VxdWVuY2Up}")), (401, b"invalid-signature"))
         self.assertEqual(self.ask(fields)[0], 200)
@@ -137,16 +139,16 @@ class Requests(unittest.TestCase):
     def test_curl(self) -> None:
         """curl sends what was signed, and spki-cert ends with the status of curl: 22 if `--fail` is given and the service answers with 401."""
         pathlib.Path(self.room, "body").write_bytes(bytes(range(256)) * 8192)
-        self.assertTrue(self.cert("request", "--by", "ed25519", "--curl", self.url, "--", "--silent").startswith("(10:public-key"))
-        self.assertIn("200 OK", self.cert("request", "--by", "rsa", "--method", "HEAD", "--curl", self.url, "--", "-s"))
-        self.assertTrue(self.cert("request", "--by", "p256", "--body", "body", "--curl", self.url, "--", "-s").startswith("(10:public-key"))
-        self.assertTrue(self.cert("request", "--by", "p256", "--method", "DELETE", "--curl", self.url, "--", "-s").startswith("(10:public-key"))
+        self.assertTrue(self.output("request", "--by", "ed25519", "--curl", self.url, "--", "--silent").startswith("(10:public-key"))
+        self.assertIn("200 OK", self.output("request", "--by", "rsa", "--method", "HEAD", "--curl", self.url, "--", "-s"))
+        self.assertTrue(self.output("request", "--by", "p256", "--body", "body", "--curl", self.url, "--", "-s").startswith("(10:public-key"))
+        self.assertTrue(self.output("request", "--by", "p256", "--method", "DELETE", "--curl", self.url, "--", "-s").startswith("(10:public-key"))
         odd = f"http://{self.service.name}/a/../%7e[b]{{c}}?"
-        self.assertTrue(self.cert("request", "--by", "p256", "--curl", odd, "--", "-s").startswith("(10:public-key"))
+        self.assertTrue(self.output("request", "--by", "p256", "--curl", odd, "--", "-s").startswith("(10:public-key"))
         self.assertEqual([(method, path, len(body)) for method, path, body in self.service.requests], [
             ("GET", "/a%20b/c?d=e", 0), ("HEAD", "/a%20b/c?d=e", 0), ("PUT", "/a%20b/c?d=e", 2_097_152), ("DELETE", "/a%20b/c?d=e", 0),
             ("GET", "/a/../%7e[b]{c}?", 0)])
-        self.cert("request", "--by", "p256", "--curl", self.url.replace("127.0.0.1", "localhost"), "--", "-s", "--fail", wanted=22)
+        self.output("request", "--by", "p256", "--curl", self.url.replace("127.0.0.1", "localhost"), "--", "-s", "--fail", wanted=22)
 
     def test_refusals(self) -> None:
         """Wrong words end with status 2 and a message, which has the text beside them here."""
@@ -158,7 +160,7 @@ class Requests(unittest.TestCase):
             (["--by", "p256", "--cert", "p256.pub", self.url], "p256.pub"), (["--by", "p256.pub", self.url], "SSH_AUTH_SOCK is not set"),
             (["--by", "p256", "https://ä/"], "not ASCII"), (["--by", "p256", "http://[::1/"], "IPv6"),
         ):
-            self.assertIn(message, self.cert("request", *words, wanted=2), words)
+            self.assertIn(message, self.output("request", *words, wanted=2), words)
 
     @needs.needs("ssh-keygen")
     def test_agent(self) -> None:
@@ -166,12 +168,12 @@ class Requests(unittest.TestCase):
         socket = test_cert.start_agent(self)
         for kind in KINDS:
             subprocess.run(["ssh-add", "-q", kind], cwd=self.room, env={**os.environ, "SSH_AUTH_SOCK": socket}, check=True)
-            self.assertEqual(self.ask(self.cert("request", "--by", f"{kind}.pub", self.url, SSH_AUTH_SOCK=socket))[0], 200)
+            self.assertEqual(self.ask(self.output("request", "--by", f"{kind}.pub", self.url, SSH_AUTH_SOCK=socket))[0], 200)
 
 
 @needs.needs("cc", "import cryptography")
-class InC(unittest.TestCase):
-    """The verifier in C, under AddressSanitizer."""
+class VerifierInC(unittest.TestCase):
+    """The verifier in C of signed requests, under AddressSanitizer."""
 
     def setUp(self) -> None:
         self.room = room_for(self)
@@ -219,7 +221,7 @@ class InC(unittest.TestCase):
             self.assertEqual(answer, wanted, f"seed {seed}: {row}")
 
     @needs.needs("openssl/evp.h")
-    def test_bodies(self) -> None:
+    def test_bodies_that_no_field_announces(self) -> None:
         """With a body that no field announces, as HTTP/2 may send it, the verifier in C answers as that in Python: also a GET needs a digest then."""
         import test_spki_http
         rows: list[Row] = [(name, dataclasses.replace(message, has_body=True), now, None, "") for name, message, now, _, _ in test_spki_http.rows()]
