@@ -1,4 +1,7 @@
-"""The calls for guards of the library for C programs, by ctypes: a question is asked in two steps, as a service does."""
+"""The calls for guards of the library for C programs, by ctypes, as a service makes them. A guard keeps an access list. A question to it is opened,
+which lists the signatures that must be verified; those that are valid are marked; then the opened question is answered.
+
+A question's `oddity` is what is wrong or null in its calls, empty if nothing is. `room` is how many octets a call may write to a buffer."""
 import ctypes
 import hashlib
 from ctypes import POINTER, Structure, byref, c_bool, c_char_p, c_int64, c_size_t, c_uint32, c_void_p
@@ -17,7 +20,7 @@ from model.values import Atom
 ROOM = 64
 # so many structures have more octets than an array can have
 MANY = 2**60
-# a place far past all signatures: with the count of those that are listed, at most 16, it is up to 2^64 - 255, so it still has 64 bits
+# a place far past all signatures: the count of those that are listed, at most 16, is added, and the sum must still have 64 bits
 NEAR_MOST = 2**64 - 255 - 16
 # What stands for the signatures of a question that the library lists wrongly: no question has it.
 LISTED_WRONGLY: list[Signed] = [(b"", b"", b"")]
@@ -60,14 +63,18 @@ def text_of(octets: bytes) -> Text:
 
 
 def rows_of(question: GuardQuestion) -> list[cases.Row]:
-    """The accepted signatures of a question, as the model reads them: those that count as valid."""
+    """The rows of a question, `(by KEY (hash sha256 DIGEST) VALUE)`, as the model reads them. The signatures that they name count as valid."""
     return cases.read_rows(forms.read(question.rows))
 
 
 def model_answer(question: GuardQuestion) -> tuple[Answer, list[Signed]]:
     """What the model answers to a question, a status and octets, and the signatures that it lists."""
-    wish = question.command.removeprefix("guard ")
-    return answer(wish, question.acl, parts_of(question), rows_of(question), question.policy, question.limits, question.oddity)
+    return answer(wish_of(question), question.acl, parts_of(question), rows_of(question), question.policy, question.limits, question.oddity)
+
+
+def wish_of(question: GuardQuestion) -> str:
+    """How a question is answered: `decide`, `explain` or `reduce`."""
+    return question.command.removeprefix("guard ")
 
 
 def parts_of(question: GuardQuestion) -> Parts:
@@ -78,15 +85,15 @@ def parts_of(question: GuardQuestion) -> Parts:
 
 
 class GuardDoor:
-    """The calls for guards, of a library that is loaded. A `handle` points to a guard, and `asked` to a question that it has opened. The `oddity` of
-    a question is what is wrong or null in its calls: a row of MISUSES or ALLOWED of model/guard.py, or empty."""
+    """The calls for guards, of a library that is loaded. A `handle` points to a guard, and `asked` to a question that it has opened. MISUSES and
+    ALLOWED of model/guard.py have the oddities."""
 
     def __init__(self, loaded: ctypes.CDLL) -> None:
-        # (of `spki_asked_granted` and `spki_asked_possible`; empty if nothing was decided)
         self.truths: tuple[bool, ...] = ()
-        """Whether the last decision is a yes, and whether it can be one, as the library says."""
+        """What `spki_asked_granted` and `spki_asked_possible` say of the last decision: whether it is a yes, and whether it would be one if all
+        signatures were valid. Empty if nothing was decided."""
         self.until = guard.NEVER
-        """The last second of the last decision."""
+        """The last second at which the last decision holds."""
         needed = POINTER(c_size_t)
         self.open, self.close, self.entries = loaded.spki_guard_open, loaded.spki_guard_close, loaded.spki_guard_entries
         self.ask, self.count, self.signature = loaded.spki_guard_ask, loaded.spki_asked_count, loaded.spki_asked_signature
@@ -130,7 +137,7 @@ class GuardDoor:
         if self.truths:
             asked_of_model = question.acl, parts_of(question), question.policy, question.limits
             if self.truths != (answered[0] == GRANTED, guard.is_possible(*asked_of_model)):
-                return f"whether it is granted and whether it is possible are said to be {self.truths}"
+                return f"whether it is granted and whether it could be are said to be {self.truths}"
             if self.until != guard.until(*asked_of_model, answered):
                 return f"a decision holds until {self.until}"
         if listed is None or answered[0] == MISUSED or listed == wanted_signatures:
@@ -165,8 +172,8 @@ class GuardDoor:
         self.close(handle)
         handle.value = None
         if odd in guard.LISTED:
-            at, place = (None, byref(Listed())) if odd == "a signature of no question" else (asked, None)
-            return (self.signature(at, 0, place), b""), None
+            is_of_none = odd == "a signature of no question"
+            return (self.signature(None if is_of_none else asked, 0, byref(Listed()) if is_of_none else None), b""), None
         listed = self.signatures(asked)
         if odd in guard.MARKED:
             past, _, no_question = guard.MARKED
@@ -180,7 +187,7 @@ class GuardDoor:
 
     def mark_valid(self, question: GuardQuestion, asked: c_void_p, listed: list[Signed]) -> None:
         """Marks in `asked` the listed signatures that a row of the question accepts, and the place behind the last: that must change nothing."""
-        for place, is_valid in enumerate([*valid_of(question, listed), True]):
+        for place, is_valid in enumerate([*are_accepted(question, listed), True]):
             if is_valid:
                 self.mark(asked, place)
 
@@ -199,7 +206,7 @@ class GuardDoor:
         """What `spki_guard_ask` answers to a question of the guard `handle`, with a buffer of `room` octets for the line. `asked` gets the opened
         question. The question's oddity is made here if it is one of this call."""
         line, needed, odd = ctypes.create_string_buffer(room + 1), c_size_t(), question.oddity
-        structure = asked_of(question)
+        structure = structure_of(question)
         pointer = None if odd == "no question" else byref(structure)
         place = None if odd == "no place for the question" else byref(asked)
         buffer = None if odd == "a buffer for a line that is null with a length" else line
@@ -222,7 +229,7 @@ class GuardDoor:
 
     def answer(self, question: GuardQuestion, asked: c_void_p | None) -> Answer:
         """What the question's call answers to the opened question `asked`, or null, by its marks. First asks for the length, then for the answer."""
-        call, odd, needed = self.by_wish[question.command.removeprefix("guard ")], question.oddity, c_size_t()
+        call, odd, needed = self.by_wish[wish_of(question)], question.oddity, c_size_t()
         if odd == "a buffer that is null with a length":
             return call(asked, None, 1, byref(needed)), b""
         status = call(asked, None, 0, byref(needed))
@@ -245,7 +252,7 @@ class GuardDoor:
         self.mark_valid(question, asked, self.signatures(asked))
         length = len(self.answer(question, asked)[1])
         octets, needed = ctypes.create_string_buffer(length), c_size_t()
-        status = self.by_wish[question.command.removeprefix("guard ")](asked, octets, length - 1, byref(needed))
+        status = self.by_wish[wish_of(question)](asked, octets, length - 1, byref(needed))
         return (status, needed.value, octets.raw) == (guard.status_too_small("an answer"), length, length * b"\0")
 
 
@@ -261,7 +268,7 @@ def signed_at(listed: Listed) -> Signed:
             ctypes.string_at(listed.value, listed.value_length))
 
 
-def asked_of(question: GuardQuestion) -> Asked:
+def structure_of(question: GuardQuestion) -> Asked:
     """A question as `struct spki_question`. An oddity of this structure is put into it; those of calls are left out."""
     request = b"" if question.strings is not None else question.request
     moment = b"" if question.seconds is not None else question.moment
@@ -290,7 +297,7 @@ def asked_of(question: GuardQuestion) -> Asked:
     return asked
 
 
-def valid_of(question: GuardQuestion, listed: list[Signed]) -> list[bool]:
+def are_accepted(question: GuardQuestion, listed: list[Signed]) -> list[bool]:
     """For each listed signature, in order, whether a row of the question accepts it, by its key, the digest of its message and its value."""
     rows = {(row.key.octets, row.digest, row.value) for row in rows_of(question)}
     return [(key, hashlib.sha256(message).digest(), value) in rows for key, message, value in listed]

@@ -10,7 +10,7 @@ from harness.support import CARGO, EXAMPLES, TOP, on_one_line, read, run
 
 SECONDS = 600
 CRATE, RUST, PYTHON = (os.path.join(TOP, *words) for words in (["crates", "spki_c"], ["bindings", "rust"], ["bindings", "python"]))
-# The program around each snippet. Its words are a list, a sequence and a key.
+# The program around each snippet. Its arguments are an access list, a sequence and a key. It takes each signature whose value is `sig` as valid.
 PROGRAMS = {
     "C": """
 #include <spki.h>
@@ -72,15 +72,12 @@ from datetime import datetime, timezone
 
 import spki
 
-
 def verify(signature):
     return signature.value == b"3:sig"
-
 
 def ask(access_list, sequence, key, path):
 SNIPPET
     return "granted" if is_granted else "denied"
-
 
 print(ask(*map(os.fsencode, sys.argv[1:]), b"/builds/web"))
 """,
@@ -111,7 +108,7 @@ func main() {
     fmt.Println(map[bool]string{true: "granted", false: "denied"}[isGranted && err == nil])
 }
 """}
-# What they print for a yes and for a no.
+# What the programs print for a yes and for a no.
 ANSWERS = {"C": ("granted\n", ""), "Rust": ('Ok("granted")\n', 'Ok("denied")\n'), "Python": ("granted\n", "denied\n"),
            "Go": ("granted\n", "denied\n")}
 MANIFEST = """
@@ -119,17 +116,13 @@ MANIFEST = """
 name = "snippet"
 version = "0.0.0"
 edition = "2021"
-
 [dependencies]
 spki = {{ path = "{crate}" }}
 """
 GO_MODULE = """
 module snippet
-
 go 1.19
-
 require conguraki/spki v0.2.0
-
 replace conguraki/spki => {module}
 """
 

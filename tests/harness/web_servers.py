@@ -1,5 +1,5 @@
-"""The web servers that ask spki-authd, each as its example sets it up, in the folder of a site: the port, the folders and the names of a real
-server are replaced. Each can be started with the ordinary lines that other sites have."""
+"""The web servers that ask spki-authd, each as its example in examples/ sets it up, in the folder of a site: the port, the folders and the names of a
+real server are replaced. Each can be started with more configuration lines, as other sites have them: for error pages, a cache and so on."""
 import http.server
 import os
 import re
@@ -15,7 +15,7 @@ from harness.support import EXAMPLES
 
 SORRY, SORRY_TEXT = "/sorry.html", "we are sorry"
 ERRORS = "500 502 503 504"
-# Lines of other sites: the file, a text of it, and what is put behind this text.
+# Configuration lines of other sites: the file, a text of it, and the lines that are put behind this text.
 More = list[tuple[str, str, str]]
 MODULES = ("mpm_event", "authz_core", "authz_host", "access_compat", "ssl", "lua", "dav", "dav_fs", "http2", "dir", "mime", "env", "setenvif",
            "alias", "cache", "cache_disk", "include", "rewrite")
@@ -26,7 +26,7 @@ SOCKET_OF_LUA = "/usr/lib/*/lua/5.3/socket/unix.so"
 class ServerSite(served.Site):
     """A site with one of the web servers, which asks spki-authd before it answers."""
 
-    # The server's name in the daemon's configuration, the form of a certificate in its header, and what it needs beside nginx's example.
+    # The server's name in the daemon's configuration, the form in which it sends a client's certificate, and what it needs beside nginx's example.
     name, form = "", "base64-der"
     needs: tuple[str, ...] = ()
     # The files of the example, and the names in them that are replaced, beside those of all.
@@ -69,15 +69,16 @@ class ServerSite(served.Site):
 
     def restart_replacing(self, changes: list[tuple[str, str, str]]) -> None:
         """Starts the server again, with the files of its example but for these changes: a file, a text of it, and the text in its place. `{room}` in
-        both texts is the folder of the site."""
+        both texts is the folder of the site. Raises AssertionError if a file does not have its text."""
         for name, text in self.originals.items():
             self.write(f"etc/{name}", text)
         self.originals = {name: self.text(f"etc/{name}") for name, _, _ in changes}
-        for name, place, lines in changes:
-            text, place = self.text(f"etc/{name}"), place.replace("{room}", self.room)
-            if place not in text:
-                raise AssertionError(f"{name} has no {place!r}")
-            self.write(f"etc/{name}", text.replace(place, lines.replace("{room}", self.room), 1))
+        for name, *old_and_new in changes:
+            old, new = (each.replace("{room}", self.room) for each in old_and_new)
+            text = self.text(f"etc/{name}")
+            if old not in text:
+                raise AssertionError(f"{name} has no {old!r}")
+            self.write(f"etc/{name}", text.replace(old, new, 1))
         self.restart_server()
 
 
@@ -102,7 +103,7 @@ class Nginx(ServerSite):
 
 
 class Caddy(ServerSite):
-    """Caddy, which only reads files. Debian's has no cache."""
+    """Caddy, which only reads files. Debian's has no cache. Behind SITE, the end of the site's options for TLS, lines of a site may be put."""
 
     name, needs, files = "caddy", ("caddy",), ("Caddyfile",)
     SITE = "client_auth {\n\t\t\tmode request\n\t\t}\n\t}\n"
@@ -208,9 +209,8 @@ class Apache(ServerSite):
         # (the socket is of root's group, and without a line on its group Apache would go on as root)
         server_user = "User www-data\nGroup root" if os.getuid() == 0 else ""
         self.write("etc/main.conf", f"ServerRoot {self.room}\nServerName localhost\nTimeout 1\nKeepAliveTimeout 1\n"
-                   f"PidFile run/httpd.pid\nErrorLog log/error.log\n"
-                   f"Listen 127.0.0.1:{self.port}\n{modules}TypesConfig /etc/mime.types\n{server_user}\n# more\n"
-                   f"Include etc/files.conf\n")
+                   f"PidFile run/httpd.pid\nErrorLog log/error.log\nListen 127.0.0.1:{self.port}\n{modules}TypesConfig /etc/mime.types\n"
+                   f"{server_user}\n# more\nInclude etc/files.conf\n")
         if server_user:
             os.chmod(self.room, 0o755)
             subprocess.run(["chown", "-R", "www-data", self.at("files"), self.at("tmp")], check=True)
@@ -236,7 +236,7 @@ class Handler(http.server.BaseHTTPRequestHandler):
         self.end_headers()
 
     def log_message(self, format: str, *args: object) -> None:
-        pass
+        """Writes no log."""
 
 
 class FileHandler(Handler):
@@ -307,7 +307,7 @@ class Impostor(http.server.ThreadingHTTPServer):
 
 
 class ImpostorHandler(Handler):
-    """Adds the secret of each request to those of its Impostor, and answers with a yes."""
+    """Adds the secret of each request to `secrets` of its Impostor, and answers with a yes."""
 
     def do_GET(self) -> None:
         server = self.server

@@ -183,31 +183,16 @@ def faults_of_clients(connect):
         return list(filter(None, pool.map(lambda place: fault_of_client(connect, place), range(CLIENTS))))
 
 
-def is_refused(call, *arguments):
-    """Whether `call` with these arguments raises `spki.Refused` or `ValueError`. Any other exception is raised."""
-    try:
-        call(*arguments)
-    except (spki.Refused, ValueError):
-        return True
-    return False
-
-
-def entries_refused():
-    """Calls `entries.entry` with arguments that make no entry. Returns for each call, by a name, whether it refused them: all must be True."""
-    own = canonical(key_of(b"k"))
-    return {"an entry without a tag": is_refused(entries.entry, own), "an entry for a tag": is_refused(entries.entry, TAG, TAG),
-            "two principals": is_refused(entries.entry, own + own, TAG),
-            "a name as a principal": is_refused(entries.entry, b"(name %s n)" % own, TAG),
-            "a field that ends the entry": is_refused(entries.entry, own, b"(tag (*))) (entry x)"),
-            "a digest of another length": is_refused(entries.entry, b"(hash sha256 abc)", TAG)}
-
-
 class RefusedEntries(built.OfLibrary):
     def test_entries_refused(self):
-        """What makes no entry is refused before it is in a table."""
-        for name, was_refused in entries_refused().items():
-            with self.subTest(name):
-                self.assertTrue(was_refused)
+        """`entries.entry` refuses a principal and fields that make no entry, before they are in a table."""
+        key = canonical(key_of(b"k"))
+        for name, principal_and_fields in {
+                "an entry without a tag": (key,), "an entry for a tag": (TAG, TAG), "two principals": (key + key, TAG),
+                "a name as a principal": (b"(name %s n)" % key, TAG), "a field that ends the entry": (key, b"(tag (*))) (entry x)"),
+                "a digest of another length": (b"(hash sha256 abc)", TAG)}.items():
+            with self.subTest(name), self.assertRaises((spki.Refused, ValueError)):
+                entries.entry(*principal_and_fields)
 
 
 class StoresOnServer(built.OfLibrary):

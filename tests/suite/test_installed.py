@@ -90,15 +90,14 @@ class Installed(built.OfLibrary):
                 with open(os.path.join(room, "CMakeLists.txt"), "w", encoding="ascii") as file:
                     file.write(f"cmake_minimum_required(VERSION 3.13)\nproject(linked C)\nfind_package(spki {version} REQUIRED)\n"
                                f"add_executable(linked {TESTS}/programs/linked.c)\ntarget_link_libraries(linked {target})\n")
-                words = ["cmake", "-S", room, "-B", room, f"-DCMAKE_PREFIX_PATH={self.prefix}"]
-                status, output = output_of(*words)
+                status, output = output_of("cmake", "-S", room, "-B", room, f"-DCMAKE_PREFIX_PATH={self.prefix}")
                 self.assertEqual(status == 0, is_found, output)
                 if is_found:
                     self.assertEqual(output_of("cmake", "--build", room)[0], 0)
                     self.assertEqual(output_of(os.path.join(room, "linked")), (0, ""))
 
-    def test_loader(self) -> None:
-        """The last line of install.sh says what to do, since the loader does not search this folder. An unknown option has status 2."""
+    def test_remark_on_the_loader(self) -> None:
+        """The last line of install.sh says what to do, since the loader does not search this folder. An unknown option, as `--help`, has status 2."""
         self.assertEqual(output_of(os.path.join(TOP, "install.sh"), "--help")[0], 2)
         self.assertIn(f"the loader does not look into {self.prefix}/lib: name the folder in", self.output.splitlines()[-1])
 

@@ -41,7 +41,7 @@ class Lists(unittest.TestCase):
                 self.assertIn(os.path.basename(row.page), text_of(f"tests/suite/{row.test}.py"))
 
     def test_names(self) -> None:
-        """The programs have each command of `spki` and `spki-cert`, option behind one of the latter and flag of `spki-authd` in backticks."""
+        """Where a page has one in backticks, `spki` or `spki-cert` has the command, `spki-cert` the options behind it, and `spki-authd` the flag."""
         helps: dict[str, str] = {}
         flags = "".join(text_of(path) for path in tracked() if path.startswith("apps/spki-authd/") and path.endswith(".go"))
         for command in self.commands:
@@ -51,9 +51,8 @@ class Lists(unittest.TestCase):
             program, word, options = named.groups()
             if program == "spki":
                 self.assertIn(word, COMMANDS, command)
-                continue
-            if program == "spki-authd":
+            elif program == "spki-authd":
                 self.assertIn(f'"{word}"', flags, command)
-                continue
-            helps[word] = helps.get(word) or page_commands.help_of(word)
-            self.assertEqual([option for option in options.split() if option not in helps[word]], [], command)
+            else:
+                helps[word] = helps.get(word) or page_commands.help_of(word)
+                self.assertEqual([option for option in options.split() if option not in helps[word]], [], command)
