@@ -47,7 +47,7 @@ from model.guard import MISUSES, WISHES
 
 # A case that takes longer counts as one that does not end. How often a line says how far the run is.
 SECONDS, SECONDS_BETWEEN_LINES = 600, 300
-# The program answers the texts of each 7th case. Questions to guards, calls and rows apart are no texts, so this is over a tenth of all.
+# The program answers the texts of each 7th case. Questions to guards, calls and separate rows are no texts, so this is over a tenth of all cases.
 PROGRAM_EVERY, PROGRAM_SHARE = 7, 0.1
 SMALL_BUFFER_EVERY = 5
 # A run of so many cases must reach each row of the model. So many cases that differ are made smaller and printed.
@@ -150,7 +150,7 @@ def in_short(result: Answer) -> str:
 
 @dataclass
 class Comparison:
-    """What is compared with the model: the library if there is one, and the program, on the cases of a seed."""
+    """What is compared with the model on the cases of a seed: the library, unless it is None, and the program, by its path."""
 
     library: Library | None
     program: str
@@ -265,7 +265,7 @@ def line_of_ended(seed: str, number: int) -> str:
 
 
 def tables(rows: Counter) -> list[str]:
-    """A line for each table of the model: its rows with their counts. `rows` has the counts by table and row."""
+    """A line for each table of the model: its rows with their counts. `rows` has the counts by pairs of the table's title and the row's name."""
     by_title: dict[str, list[str]] = {}
     for (title, name), count in rows.items():
         by_title.setdefault(title, []).append(f"{name} {count}")
@@ -299,7 +299,7 @@ def arguments() -> argparse.Namespace:
 
 
 def unreached(rows: Counter) -> list[str]:
-    """The rows of the model that no case has reached."""
+    """The rows of the model that no case has reached. `rows` has the counts by pairs of the table's title and the row's name."""
     return [f"{title}: {name}" for (title, name), count in rows.items() if not count]
 
 

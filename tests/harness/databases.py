@@ -23,11 +23,12 @@ sys.path.append(needs.DEBIAN)
 NEEDED = (needs.INITDB, f"{needs.DEBIAN}/psycopg")
 # How long a program that `Server.run` runs may take, as one that makes the files of a server or of a replica.
 SECONDS = 600
+# The settings of each server: no address but its socket, no wait for the disk, and room for connections, replicas and the log that these lack.
 SETTINGS = {"listen_addresses": "", "fsync": "off", "max_connections": "100", "wal_keep_size": "256MB", "hot_standby": "on", "max_wal_senders": "8"}
 
 
 def program(name: str) -> str:
-    """The path of a program of the PostgreSQL whose folder of a version is last by name: Debian has none in PATH. Raises IndexError without one."""
+    """The path of a program of PostgreSQL, which Debian does not have in PATH: of the version that is last by name. Raises IndexError without one."""
     return sorted(glob.glob(f"/usr/lib/postgresql/*/bin/{name}"))[-1]
 
 
@@ -46,8 +47,8 @@ OWNER = ["setpriv", "--reuid=postgres", "--regid=postgres", "--clear-groups"]
 
 
 class Server:
-    """A server in a temporary folder, which trusts whoever reaches its socket there. It ends with its context. It may be at a node of a network, and
-    then trusts other nodes too, and on a disk of its own of `mib` MiB, if that is not 0. `settings` are those of PostgreSQL."""
+    """A server in a temporary folder, which trusts whoever reaches its socket there. It ends with its context. It may be `at` a node of a network,
+    and then trusts the other nodes too, and on a disk of its own of `mib` MiB, if that is not 0. `settings` are those of PostgreSQL."""
 
     def __init__(self, at: networks.Node | None = None, mib: int = 0, **settings: str) -> None:
         self.folder = tempfile.mkdtemp(prefix="spki-pg-")
@@ -79,12 +80,12 @@ class Server:
 
     @property
     def words(self) -> list[str]:
-        """The words before each command of the server: they enter its node, and change the user from root."""
+        """The words before each command of the server: a command that runs it at its node, if it has one, and not as root."""
         return [*(self.at.words if self.at else []), *(OWNER if os.geteuid() == 0 else [])]
 
     @property
     def host(self) -> str:
-        """The host, of libpq, by which other servers reach it."""
+        """The host, of libpq, by which other servers reach it: the address of its node, or the folder of its socket."""
         return self.at.address if self.at else self.folder
 
     @property

@@ -103,8 +103,7 @@ NEEDS = [Need(*words) for words in [
     ("codespell", "codespell", "the spelling, which only `.ci/deep` checks"),
     ("chromium", "chromium", "the page `apps/playground` in a browser"),
     ("chromedriver", "chromium-driver", "the page `apps/playground` in a browser"),
-    ("/usr/lib/python3/dist-packages/selenium", "python3-selenium", "the page `apps/playground` in a browser"),
-]]
+    ("/usr/lib/python3/dist-packages/selenium", "python3-selenium", "the page `apps/playground` in a browser")]]
 BY_NAME = {need.name: need for need in NEEDS}
 # What the library for C is built with, that for ARM, and what fuzzes.
 LIBRARY = ("cc", "ld", "objcopy")
@@ -114,8 +113,6 @@ INITDB = "/usr/lib/postgresql/*/bin/initdb"
 # Where Debian has its modules for Python, which another Python than Debian's does not look through.
 DEBIAN = "/usr/lib/python3/dist-packages"
 BROWSER = ("chromium", "chromedriver", f"{DEBIAN}/selenium")
-
-
 # A mount namespace and a process namespace of its own, in which /proc can be another one. Who is not root needs a user namespace for that.
 APART = ["unshare", *["--map-root-user"] * bool(os.getuid()), "--mount", "--pid", "--fork", "--kill-child", "--mount-proc"]
 # What hides all of /proc but the processes there, as ProcSubset=pid does.

@@ -1,4 +1,4 @@
-"""Networks of namespaces, for tests: each node has a cable to one switch, and a cable can be pulled. Only root can make them."""
+"""Networks of Linux namespaces, for tests: each node has a cable to one switch, and a cable can be pulled. Only root can make them."""
 from __future__ import annotations
 
 import os
@@ -15,7 +15,7 @@ def ip(*words: str) -> None:
 
 
 class Node:
-    """A machine of a network: a namespace with an address. A command that begins with `words` runs there."""
+    """A machine of a network, with its number there, from 1. A command that begins with `words` runs at this node."""
 
     def __init__(self, network: Network, number: int) -> None:
         self.network, self.name, self.port, self.address = network, f"{network.name}-{number}", f"port{number}", f"10.77.0.{number}"

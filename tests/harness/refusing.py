@@ -1,4 +1,4 @@
-"""Runs of a program under `refuse.c`, which refuses some of what it asks for, and on ends that fail by themselves."""
+"""Runs a program under `refuse.c`, which refuses some requests for memory, reads and writes, or with an input or output that itself fails."""
 import os
 import resource
 import signal
@@ -18,7 +18,7 @@ NAMES = ("memory", "read", "write")
 @dataclass
 class Ended:
     """How a run ended: its status (negative: the signal that ended it) and outputs. After `Program.run` also how many requests of each kind of NAMES
-    it made, how many of all were refused, and how many of those for memory came before the first read."""
+    it made (`asked`), how many of all were `refused`, and how many of those for memory came before the first read."""
 
     status: int
     out: bytes
@@ -109,7 +109,7 @@ class Program:
         return child
 
     def limited(self, command, text, resource_number, most):
-        """Runs a command with a resource, such as `resource.RLIMIT_AS`, limited to `most`, in the unit of setrlimit. Its output is a file."""
+        """Runs a command with a resource, such as `resource.RLIMIT_AS`, limited to `most`, in the unit of setrlimit. It writes into a file."""
         with tempfile.TemporaryFile() as out:
             child = self.start(command, descriptor_of(text), out, preexec_fn=lambda: self.limit(resource_number, most))
             run = ended(child)

@@ -1,4 +1,5 @@
-"""Runs tests of unittest in several processes, and says what passed, what failed and what was skipped."""
+"""Runs tests of unittest in several processes, and says what passed, what failed and what was skipped. A part is some tests of one class, which one
+process runs, mostly all of them. A row of a table is a test whose name has `:` in it, as `test_tables/tags:12`."""
 import contextlib
 import io
 import multiprocessing
@@ -52,7 +53,7 @@ def short_name(test: unittest.TestCase) -> str:
 
 
 def goes_by(test: unittest.TestCase, name: str) -> bool:
-    """Whether a name of the command line means a test: it is that of the test, of its table, its class or its module, or the path of its module."""
+    """Whether a name of the command line selects a test: it is that of the test, its table, its class or its module, or the path of its module."""
     name = name.removeprefix(f"{os.path.relpath(SUITE)}{os.sep}").removesuffix(".py").removeprefix("suite.").removeprefix("test_")
     module, class_name = module_of(test).removeprefix("test_"), type(test).__qualname__
     names = (short_name(test), test.id().removeprefix("suite.test_"), module, f"{module}.{class_name}", class_name)
@@ -190,8 +191,8 @@ def line_of_class(name: str, outcomes: list[Outcome]) -> str:
 
 
 class Report:
-    """The outcomes so far, printed by classes as they end. `command`, with the name of a test behind it, runs this test alone. `left` counts the
-    parts of each class that have not ended."""
+    """The outcomes so far, printed by classes as they end. `command`, with the name of a test behind it, runs this test alone. `left` has, by the
+    names of the classes, how many of their parts have not ended."""
 
     def __init__(self, parts: Iterable[tuple[str, list[unittest.TestCase]]], command: str) -> None:
         self.left, self.command = Counter(name for name, _ in parts), command
@@ -225,7 +226,7 @@ def as_they_end(started: dict[Future, str]) -> Iterator[Future]:
 
 def run_all(tests: list[unittest.TestCase], jobs: int, stops_early: bool, command: str) -> list[Outcome]:
     """Runs tests in `jobs` processes, and prints their outcomes. Returns one for each part. `stops_early`: it begins none after the first that fails.
-    `command`, with the name of a test behind it, runs this test alone."""
+    `command`, with the name of a test behind it, runs this test alone. A whole module that is skipped has its part here, without a process."""
     parts = parts_of(tests)
     report = Report(parts, command)
     for name, part in parts:

@@ -45,7 +45,8 @@ def free_port() -> int:
 
 
 class Site:
-    """nginx and the daemon, both started, with their files in the new folder `room`. `web_servers.py` has other web servers."""
+    """nginx and the daemon, both started, with their files in the new folder `room`. `web_servers.py` has other web servers. `who` names a client's
+    certificate and key, as `ann`, or `ann.crt ann` by their files. None: the client has no certificate."""
 
     def __init__(self) -> None:
         self.room = tempfile.mkdtemp(prefix="site-")
@@ -115,6 +116,7 @@ class Site:
         waits_for("the web server listens", self.server_listens)
 
     def stop_daemon(self) -> None:
+        """Ends the daemon by SIGTERM, and waits for its end."""
         self.daemon.terminate()
         self.daemon.wait()
 
@@ -151,7 +153,7 @@ class Site:
     # ---- asking
 
     def context(self, who: str | None) -> ssl.SSLContext:
-        """The TLS settings of a client. `who` names its certificate and key, as `ann`, or `ann.crt ann`. None: it has no certificate."""
+        """The TLS settings of a client, which are made once."""
         if who not in self.contexts:
             self.contexts[who] = context = ssl.create_default_context(cafile=self.at("ca/ca.crt"))
             if who is not None:
@@ -161,20 +163,21 @@ class Site:
 
     @contextlib.contextmanager
     def connected(self, who: str | None) -> Iterator[ssl.SSLSocket]:
-        """A context with a connection of a client, by TLS. `who` names its certificate and key. None: it has no certificate."""
+        """A context with a connection of a client, by TLS. `who` names its certificate and key, or is None for none."""
         with socket.create_connection(("127.0.0.1", self.port), SECONDS) as plain:
             with self.context(who).wrap_socket(plain, server_hostname="localhost") as client:
                 yield client
 
     def answer(self, who: str | None, request: bytes) -> bytes:
         """All that the web server answers to the octets `request`, until it ends the connection. Empty if there is no connection. Where the rate is
-        exceeded, the client waits and asks again. `who` names its certificate and key. None: it has no certificate."""
+        exceeded (429), the client waits and asks again. `who` names its certificate and key, or is None for none."""
         while (answer := self.answer_at_once(who, request)).startswith(b"HTTP/1.1 429"):
             time.sleep(0.2)
         return answer
 
     def answer_at_once(self, who: str | None, request: bytes) -> bytes:
-        """All that the web server answers to the octets `request`, sent once: also 429, if the rate is exceeded. Empty if there is no connection."""
+        """All that the web server answers to the octets `request`, sent once: also 429, if the rate is exceeded. Empty if there is no connection. If
+        the server breaks it, what came before (OSError is suppressed). `who` names the client's certificate and key, or is None for none."""
         answer = b""
         with contextlib.suppress(OSError), self.connected(who) as client:
             client.sendall(request)
@@ -184,7 +187,7 @@ class Site:
 
     def status(self, who: str | None, method: str, path: str, *lines: str, body: str = "") -> int:
         """The status of the answer to a request, with these lines added to its header, and a `Content-Length` if it has a body. `who` names the
-        client's certificate and key. None: it has no certificate. Raises IndexError if there is no answer."""
+        client's certificate and key, or is None for none. Raises IndexError if there is no answer."""
         header = [f"{method} {path} HTTP/1.1", "Host: localhost", "Connection: close", *lines]
         header += [f"Content-Length: {len(body)}"] if body else []
         return int(self.answer(who, "\r\n".join([*header, "", body]).encode("latin-1")).split(b" ", 2)[1])

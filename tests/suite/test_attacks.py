@@ -88,25 +88,25 @@ class Table(unittest.TestCase):
             self.site.stop_daemon()
             self.addCleanup(self.site.start_daemon)
         self.assertEqual(self.site.status(None, "GET", "/web/index.html") >= 500, is_stopped)
-        for name, each in rows_of(self.kind, column):
+        for name, attack in rows_of(self.kind, column):
             if is_chosen(name):
                 with self.subTest(name):
-                    self.check_attack(each, is_stopped)
+                    self.check_attack(attack, is_stopped)
         if not is_stopped:
             self.check_ann()
             self.assertNotIn('"answer":"failed"', self.site.text("log/authd.log"))
 
-    def check_attack(self, each: attacks.Attack, is_stopped: bool) -> None:
-        """Each HTTP status in the answer to an attack must be in `each.must`. While the daemon is stopped it may also be 403, 500, 502 or 503, and
+    def check_attack(self, attack: attacks.Attack, is_stopped: bool) -> None:
+        """Each HTTP status in the answer to an attack must be in `attack.must`. While the daemon is stopped it may also be 403, 500, 502 or 503, and
         must not be 401. Where there is no answer, the status is 0. No file may be sent or changed."""
-        answer = self.site.answer(each.who, self.sender.filled(each.octets))
-        allowed = (each.must | attacks.DENIED | attacks.WITHOUT_DAEMON) - {401} if is_stopped else each.must
+        answer = self.site.answer(attack.who, self.sender.filled(attack.octets))
+        allowed = (attack.must | attacks.DENIED | attacks.WITHOUT_DAEMON) - {401} if is_stopped else attack.must
         self.assertLessEqual(set(attackers.statuses(answer) or [0]), allowed, answer)
         self.assertEqual(list(attackers.changes_of(self.site, answer)), [])
 
     def check_sites(self) -> None:
         """`kind.sites` has lines of other sites, by name. With each the server grants nothing of `attackers.ASKED`, which the daemon denies, nor of
-        `attackers.GRANTED` while that is stopped. Lines named `.. that fails` may deny Ann too. The gate runs about a third."""
+        `attackers.GRANTED` while the daemon is stopped. Lines named `.. that fails` may deny Ann too. The gate runs about a third of them."""
         for name, more in self.kind.sites.items():
             if not is_chosen(f"{self.kind.name}, {name}", 3):
                 continue
@@ -136,17 +136,17 @@ class Table(unittest.TestCase):
             self.site.start_daemon()
 
     def probe(self, status: int, text: str, *more: str) -> None:
-        """Runs `spki-authd -probe` on the site, with the options `more`. It must end with this status, write `text`
-        among other lines, and leave no request out."""
+        """Runs `spki-authd -probe` on the site, with the options `more`. It must end with `status`, write `text` among other lines, and leave no
+        request out."""
         words = (self.site.program, "-probe", f"https://localhost:{self.site.port}/web/", *more)
         ended, output = output_of(*words, env={**self.site.settings, "SSL_CERT_FILE": self.site.at("ca/ca.crt")}, seconds=served.SECONDS)
         self.assertEqual((ended, text in output), (status, True), output)
         self.assertNotIn("left out", output)
 
     def check_port(self) -> None:
-        """A server that asks the daemon on a port with TLS believes only the holder of the daemon's certificate. An
-        impostor there says yes to all. With this certificate it gets the secret that the server sends to the daemon,
-        and the request is granted. With another one it gets no secret, and nothing is granted."""
+        """A server that asks the daemon on a port with TLS believes only the holder of the daemon's certificate. An impostor there says yes to all.
+        With the daemon's certificate it gets the secret that the server sends to the daemon, and the request, which Eve may not make, is granted.
+        With another certificate it gets no secret, and nothing is granted."""
         make = ("openssl", "req", "-x509", "-newkey", "ed25519", "-nodes", "-days", "9", "-subj", "/CN=spki-authd", "-addext",
                 "subjectAltName=DNS:spki-authd,IP:127.0.0.1")
         for name in ("authd", "other"):
@@ -191,13 +191,13 @@ class Nginx(Table):
 class Caddy(Table):
     """Caddy reads files."""
 
-    def test_without_certificate(self) -> None:
+    def test_client_without_certificate(self) -> None:
         """A client without a certificate gets 401. Caddy must send the daemon an empty certificate then: by itself it would send the name of its
         placeholder, which the daemon would refuse as malformed."""
         self.site.restart_with([])
         self.assertEqual(self.site.status(None, "GET", "/web/index.html"), 401)
 
-    def test_who_only_writes(self) -> None:
+    def test_writing_is_denied(self) -> None:
         """PUT and DELETE get 403 where the daemon grants them, as to the robot that may only write. Caddy 2.6.2 would answer them as GET."""
         self.site.restart_with([])
         for method in ("PUT", "DELETE"):

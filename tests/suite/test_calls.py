@@ -1,6 +1,6 @@
-"""Runs `test_one_call`, the program that does calls of the libraries, on the rows of the tables in `calls/` and on those that
-`call_rows.py`, `guard_rows.py` and `question_rows.py` make. Each row is a test, which `tests/run calls/tags:12` runs alone; all rows of a
-class are given to one process. Where the second compiler's program is there too, which `rt ci` makes, it must answer the same."""
+"""Runs `test_one_call`, the program that does calls of the libraries, on the rows of the tables in `calls/` and on those that `call_rows.py`,
+`guard_rows.py` and `question_rows.py` make. A row has a call, its texts and the expected answer. Each is a test, which `tests/run calls/tags:12`
+runs alone; all rows of a class are given to one process. `rt ci` makes the program by a second compiler too: if it is there, it answers alike."""
 import os
 import re
 import unittest
@@ -79,8 +79,7 @@ def row_test(name: str) -> Callable[[OfCalls], None]:
 def class_of_rows(name: str, rows: Iterable[CallRow], path: str) -> type:
     """A class of this name with a test for each of these rows. The program at `path` answers them."""
     named = {f"test_{row.place}:{row.call}": row for row in rows}
-    tests = {each: row_test(each) for each in named}
-    return type(name, (OfCalls,), {"path": path, "rows": named} | tests)
+    return type(name, (OfCalls,), {"path": path, "rows": named, **{each: row_test(each) for each in named}})
 
 
 def add_classes() -> None:

@@ -19,7 +19,7 @@ from harness.support import canonical
 # The parts of the smaller text, how many times as many the larger one has, and how many times as many steps that may take.
 FEW, TIMES, MOST_TIMES = 40, 4, 5.0
 NOW = b"2026-03-01_12:00:00"
-# The steps that are counted, as the only member of a list.
+# How many steps were counted, as the only member of a list, so that all functions here can add to it.
 SEEN: list[int] = [0]
 
 
@@ -238,7 +238,7 @@ class OfAsk(unittest.TestCase):
         """40 keys that all give a right to each other, or a name of 25,000 strings, take more steps than the bound, which ends the search."""
         net = [key(f"k{at}") for at in range(40)]
         long = [b"name", key("k1"), *[b""] * 25_000]
-        for pairs in ([(one, other) for one in net for other in net], [(net[0], long)]):
+        for pairs in ([(issuer, subject) for issuer in net for subject in net], [(net[0], long)]):
             chains, steps = self.search(pairs, [net[0]], key("x"))
             self.assertEqual((chains, steps.is_cut, steps.left < 0), ([], True, True))
 

@@ -36,8 +36,7 @@ NOT_ON_MACHINES = re.compile(r".*archive\.py|examples/database/story\.py .*")
 # Commands that run before those of a page, in the same folder: they make what the page presupposes in words.
 KEYS = "for who in lead member robot alice bob; do spki-cert key new --no-passphrase $who; done\n"
 BEFORE = {
-    "docs/PEERS.md": KEYS,
-    "help": KEYS + "spki-cert entry --to alice.pub --tag '(packages)' --propagate --acl acl.sexp\n"
+    "docs/PEERS.md": KEYS, "help": KEYS + "spki-cert entry --to alice.pub --tag '(packages)' --propagate --acl acl.sexp\n"
     "spki-cert sign --by alice --to bob.pub --tag '(packages read)' --days 30 -o to-bob.sexp\nmkdir certificates && cp to-bob.sexp certificates\n"
     "spki-cert end --ended ended\n"}
 

@@ -1,6 +1,6 @@
-"""The parts of the gate: what bash runs of its file, which functions a wrong body changes, which output of a check
-refuses it, which promises the deep run has tried, how logs are counted, what the gate runs, that all that a command writes
-is printed, and that one which takes too long is ended. The texts of the toolchain are those that it printed in runs."""
+"""The parts of the gate (.ci/run and .ci/deep): what bash runs of its file, which functions a wrong body changes, which output of a check refuses it,
+which contracts the deep run has tried, how logs are counted, what the gate runs, that all that a command writes is printed, and that one which takes
+too long is ended. A wrong body is an edit of a function that its contract must refuse. The toolchain's texts here are those that it printed in runs."""
 import contextlib
 import io
 import os
@@ -101,7 +101,7 @@ class Verdicts(unittest.TestCase):
         return bodies.refuses("low", "names::tried", "\n".join(lines))
 
     def test_refused(self) -> None:
-        """A wrong body is refused if the line of its own function says `not proved`, also if a goal of its proof file is open."""
+        """A wrong body is refused if the line of the function that it changes says `not proved`, also if a goal of its proof file is open."""
         self.assertTrue(self.is_refused("fn low::names::other: proved", "fn low::names::tried: not proved"))
         self.assertTrue(self.is_refused("./proofs/names/tried/Answers.antt:10:29: error: `returns-then`: `search`: no proof of `⊥`",
                                         "fn low::names::tried: not proved"))
@@ -177,7 +177,8 @@ class Logs(unittest.TestCase):
             self.assertEqual(self.counts(output, status)[:2], wanted, output)
         self.assertEqual([self.counts("none", status, False)[:2] for status in (0, 1)], [(1, 0), (0, 1)])
 
-    def test_left_out(self) -> None:
+    def test_what_is_left_out(self) -> None:
+        """Lines `skipped: WHAT` and `WHAT are left out` say what was left out."""
         output = "skipped: the page (Debian: chromium)\nthe pages in Chromium are left out\n1 passed, 0 failed\n"
         self.assertEqual(self.counts(output, 0)[2], ["the page (Debian: chromium)", "the pages in Chromium"])
 

@@ -112,9 +112,6 @@ def is_as_in_examples(kind, name, text):
     return text in whole if kind == "quotation" else text == whole
 
 
-# ---- indented blocks
-
-
 def indented(page):
     """The indented blocks of the text of a page. Yields pairs of the paragraph above and the block."""
     parts = re.split(r"\n{2,}", FENCED.sub("", page))

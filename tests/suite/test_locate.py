@@ -1,9 +1,9 @@
-"""Runs apps/locate on texts that are refused, and compares what it shows.
+"""Runs apps/locate, which shows where a refused text has its mistake, and compares what it shows.
 
-First on texts with one mistake each: whole texts, and parts of a question to a guard. They are written out here with the place, by line
-and column, and with words of the remark that it should show. It must show each place once. Then on each row of the tables in `tables/`,
-and on generated texts and parts, whose answers the model has. It must find the refusal that is the answer there, and none if there
-is another answer, or if the answer is `TooLarge` or `Memory`, which have no place."""
+First on texts with one mistake each: whole texts, and parts of a question to a guard. They are written out here with the place, by line and column,
+and with words of the remark that it should show. It must show each place once. Then on each row of the tables in `tables/`, and on generated texts
+and parts, whose answers the model has. It must find the refusal that is the answer there, and none if there is another answer, or if the answer is
+`TooLarge` or `Memory`, which have no place. A fault has a place (`at`), and may have others, such as where the item begins that has the fault."""
 import contextlib
 import io
 import os
@@ -45,18 +45,13 @@ def with_field(field):
     return with_certificate(CERT.replace("FIELD", field))
 
 
-# A text, the words of the refusal, the place as line and column, and words of the remark.
+# Texts that are whole: the text, the words of the refusal behind `refused`, the place as line and column, and words of the remark.
 MISTAKES = [
-    ("(a\n ~)", "form Bad 4", (2, 2), "a member or `)`"),
-    ("(a 2024-01-01)", "form Bad 7", (1, 4), "put quotes around"),
-    ('(a "\\q")', "form Bad 5", (1, 6), "no escape"),
-    ("#616#", "form Bad 4", (1, 5), "odd"),
-    ("(a)\n(b)", "form Trailing 4", (2, 1), "a text is one value"),
-    ("(a\n (b c", "form Short", (2, 6), "not closed"),
-    ('(a "b', "form Short", (1, 4), "string is not whole"),
-    ("(9:abc)", "form Short", (1, 8), "9 octets"),
-    ("", "form Short", (1, 1), "the file is empty"),
-    ("(" * 65, "form TooDeep", (1, 65), "65th list"),
+    ("(a\n ~)", "form Bad 4", (2, 2), "a member or `)`"), ("(a 2024-01-01)", "form Bad 7", (1, 4), "put quotes around"),
+    ('(a "\\q")', "form Bad 5", (1, 6), "no escape"), ("#616#", "form Bad 4", (1, 5), "odd"),
+    ("(a)\n(b)", "form Trailing 4", (2, 1), "a text is one value"), ("(a\n (b c", "form Short", (2, 6), "not closed"),
+    ('(a "b', "form Short", (1, 4), "string is not whole"), ("(9:abc)", "form Short", (1, 8), "9 octets"),
+    ("", "form Short", (1, 1), "the file is empty"), ("(" * 65, "form TooDeep", (1, 65), "65th list"),
     ("{KDE6YSk=", "form Short", (1, 10), "before `}`"),
     (with_field('(not-afer "2024-01-01_00:00:00")'), "sequence 3 Shape", (8, 2), "`not-after` meant"),
     (with_field("(tag x)"), "sequence 3 Shape", (8, 2), "a second time"),
@@ -77,8 +72,7 @@ MISTAKES = [
     (with_field("").replace("(cert", "(certt"), "sequence 3 Shape", (4, 2), "is `cert` meant?"),
     (with_certificate(KEY).replace("(accepted)", "(acepted)"), "case Shape", (2, 2), "is `accepted` meant?"),
     (with_certificate(KEY).replace(':00"))', ':00") (policy open))'), "case Shape", (5, 71), "leave it out"),
-    (with_certificate(KEY).replace(':00"))', ':00") (polisy strict))'), "case Shape", (5, 71), "is `policy` meant?"),
-]
+    (with_certificate(KEY).replace(':00"))', ':00") (polisy strict))'), "case Shape", (5, 71), "is `policy` meant?")]
 
 # Parts of a question to a guard, and access lists: the text, the words of the refusal that `locate` is given or none, the refusal that it must
 # show, the place as line and column, and words of the remark.
@@ -94,8 +88,7 @@ OF_PARTS = [
     ("(sequence (do hash sha265))", "", "sequence 1 HashAlg", (1, 20), "is `sha256` meant?"),
     ("(sequenze)", "sequence 0 Shape", "sequence 0 Shape", (1, 1), "must be `(sequence ..)`, but is"),
     (KEY, "sequence 0 Shape", "sequence 0 Shape", (1, 1), "must be `(sequence ..)`, but is"),
-    ("(seq ~)", "sequence Bad 5", "sequence Bad 5", (1, 6), "a member or `)`"),
-    ("{KDE6YQ", "sequence Short", "sequence Short", (1, 8), "before `}`"),
+    ("(seq ~)", "sequence Bad 5", "sequence Bad 5", (1, 6), "a member or `)`"), ("{KDE6YQ", "sequence Short", "sequence Short", (1, 8), "before `}`"),
     ("(public-key (test a)\n (uri))", "", "key KeyUris", (2, 2), "no `(uri ..)`"),
     ("(public-key test)", "key Shape", "key Shape", (1, 13), "name of an algorithm"),
     ("(hash sha1 x)", "key Shape", "key Shape", (1, 1), "must be `(public-key ..)`, but is `(hash ..)`"),
@@ -103,14 +96,12 @@ OF_PARTS = [
     ("(ftp\n ())", "request EmptyList", "request EmptyList", (2, 2), "has members"),
     ("(ftp (* a))", "request StarInRequest", "request StarInRequest", (1, 7), "does not begin with `*`"),
     ("(sequence (a) ((b)))", "request ListHead", "request ListHead", (1, 16), "is a string"),
-    ("[text]ftp", "request Hint", "request Hint", (1, 1), "display hint"),
-    ("(" * 65, "request TooDeep", "request TooDeep", (1, 65), "65th list"),
+    ("[text]ftp", "request Hint", "request Hint", (1, 1), "display hint"), ("(" * 65, "request TooDeep", "request TooDeep", (1, 65), "65th list"),
     ('"2024-13-01_00:00:00"', "at BadDate", "at BadDate", (1, 1), "in UTC"),
     ('"2024-01-01_00:00:00" x', "at Trailing 22", "at Trailing 22", (1, 23), "a text is one value"),
     (f"(accepted (by {KEY} {HASH}))", "rows 1 Shape", "rows 1 Shape", (1, 117), "is missing"),
     ("(accepted ~)", "rows Bad 10", "rows Bad 10", (1, 11), "a member or `)`"),
-    (with_certificate(KEY), "request EmptyList", "sequence 4 StraySignature", (4, 24), "another refusal"),
-]
+    (with_certificate(KEY), "request EmptyList", "sequence 4 StraySignature", (4, 24), "another refusal")]
 # A text, the words of the refusal that is given or none, the exit status, and words that are printed.
 STATUSES = [
     ("(a)", "", 0, "nothing is wrong with the form"), ("(a ~)", "", 1, "refused form Bad 3"), ("(a ~)", "form Short", 2, "another refusal"),

@@ -53,9 +53,9 @@ class Counted(test_bindings.Binding):
                       ["ld", "-r", "-o", whole, own, "--whole-archive", renamed], ["ar", "rcsD", cls.archive, whole],
                       ["cc", "-shared", "-o", cls.counting, whole]):
             subprocess.run(words, check=True, timeout=SECONDS)
-        few, many = case_of([b"public-key", [b"test", b"b"]], [], []), case_with_long_key()
+        short, long = case_of(subject=[b"public-key", [b"test", b"b"]], items=[], rows=[]), case_with_long_key()
         # (without the same questions in other forms, by strings or by seconds: these have `by` in their names)
-        cls.asked = [each._replace(limits=limits) for text, limits in ((few, "usual"), (few, "highest"), (many, "highest"))
+        cls.asked = [each._replace(limits=limits) for text, limits in ((short, "usual"), (short, "highest"), (long, "highest"))
                      for each in test_bindings.questions_of(cls.program, text, limits) if each.command != "decide" and "by" not in each.name]
 
     def setUp(self):
@@ -69,7 +69,7 @@ class Counted(test_bindings.Binding):
         self.assertEqual(text_of(self.counts).splitlines(), [f"{each.command} {DONE} {len(each.wanted)}" for each in asked])
 
     def test_the_answers_are_long(self):
-        """Those by the usual limits are longer than 8 KiB, and one by the highest than 1 MiB, the usual limit."""
+        """All by the usual limits are longer than 8 KiB, and one by the highest limits is longer than 1 MiB, the usual limit of an answer."""
         lengths = {limits: sorted(len(each.wanted) for each in self.asked if each.limits == limits) for limits in ("usual", "highest")}
         self.assertGreater(lengths["usual"][0], 8192)
         self.assertGreater(lengths["highest"][-1], 1 << 20)

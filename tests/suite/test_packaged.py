@@ -23,8 +23,7 @@ SHARED, PLACE = f"libspki-c{INTERFACE}", "usr/lib/x86_64-linux-gnu"
 MAINTAINER = "Ann Smith <ann@conguraki.org>"
 # The files that each package must have. All have a changelog and a copyright.
 FILES = {
-    "spki": ["usr/bin/spki", "usr/share/man/man1/spki.1.gz"],
-    SHARED: [f"{PLACE}/libspki_c.so.{INTERFACE}"],
+    "spki": ["usr/bin/spki", "usr/share/man/man1/spki.1.gz"], SHARED: [f"{PLACE}/libspki_c.so.{INTERFACE}"],
     "libspki-dev": ["usr/include/spki.h", "usr/include/spki.hpp", f"{PLACE}/cmake/spki/spki-config.cmake", f"{PLACE}/libspki_c.a",
                     f"{PLACE}/libspki_c.so", f"{PLACE}/pkgconfig/spki.pc"],
     "spki-cert": ["usr/bin/spki-cert", "usr/share/spki-cert/spki/__init__.py", "usr/share/spki-cert/spki_cert_tool/commands.py",

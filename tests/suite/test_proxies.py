@@ -65,7 +65,7 @@ class Proxies(unittest.TestCase):
         waits_for("the proxy listens", listens)
 
     def start_nginx(self, more: str, to: str = "", http: str = "") -> None:
-        """Starts nginx before `to`, by default the first service. `more` has lines of its location, and `http` lines outside of its server."""
+        """Starts nginx before the upstream `to`, by default the first service. `more` are lines of its location, `http` are outside of its server."""
         as_user = "user root;" if os.getuid() == 0 else ""
         self.start(["nginx", "-p", self.room, "-c", "conf", "-e", "log", "-g", as_user],
                    NGINX.format(room=self.room, to=to or self.service.name, more=more, http=http))
@@ -89,8 +89,8 @@ class Proxies(unittest.TestCase):
         return "valid" if b"(10:public-key" in text else text.decode() if status == "401" else status
 
     def check_answers(self, wanted: dict[str, str]) -> None:
-        """Each kind of request, with its target, change and host name, must have its usual answer, or the one in `wanted`. Usually all are valid but
-        folded lines, a line twice and another name."""
+        """Each kind of request, with its target, change and host name, must have its usual answer, or the one that `wanted` has for it. Usually all
+        are valid but folded lines, a line twice and another name."""
         kinds: dict[str, tuple[str, Change, str]] = {
             "plain": ("/a/b?c=d", same, NAME), "empty query": ("/a?", same, NAME), "percent-encoding": ("/%7ea%2Fb%2f?%20+", same, NAME),
             "dots": ("/a/../b/./c", same, NAME), "slashes": ("/a//b", same, NAME), "no URI's octets": ('/a"b|c[d]{e}', same, NAME),

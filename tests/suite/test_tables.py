@@ -1,6 +1,6 @@
-"""Runs the program on the rows of the tables in `tables/`, on the pairs of sets of `pairs.py` and on the cases with certificates of
-`chains.py`. Each row is a test, which `tests/run tables/malformed:12` runs alone. Where the second compiler's program is there too, which
-`rt ci` makes, it must answer the same."""
+"""Runs the program on the rows of the tables in `tables/`, on the pairs of sets of `pairs.py` and on the cases with certificates of `chains.py`. A
+row has a command, a text and the expected answer. Each is a test, which `tests/run tables/malformed:12` runs alone. `rt ci` makes the program by a
+second compiler too: if it is there, it must answer the same."""
 import os
 from collections import Counter
 from collections.abc import Callable, Iterable, Iterator
@@ -24,9 +24,6 @@ class BySecondCompiler(built.OfProgram):
         cls.program = built.existing(built.BY_RATTLE)
 
 
-# ---- rows
-
-
 def row_test(row: Row) -> Test:
     """A test method: the program must give the answer of the row, and by other commands answers that agree with it (`fault_of`)."""
     def test(self: built.OfProgram) -> None:
@@ -47,9 +44,6 @@ def named_tests(rows: Iterable[Row]) -> Iterator[tuple[str, Test]]:
         yield f"{name}{f':{named[name]}' if named[name] > 1 else ''}", row_test(row)
 
 
-# ---- pairs
-
-
 def faults_of_pairs(program: str) -> list[str | None]:
     """What is wrong with the program's answer to each pair of sets, in the order of `pairs.rows`, or None if nothing is."""
     with ThreadPoolExecutor(os.cpu_count()) as pool:
@@ -67,9 +61,6 @@ def pairs_test(number: int) -> Test:
         if faults:
             self.fail("\n".join(faults))
     return test
-
-
-# ---- a class of tests for each table, on each program
 
 
 def classes(base: type[built.OfProgram], ending: str = "") -> Iterator[type]:

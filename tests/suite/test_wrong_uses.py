@@ -1,6 +1,7 @@
-"""What happens where a call of the bindings is used wrongly, by the tables that rows/wrong_uses.py reads. Rows that do not compile (in Python: that
-mypy refuses) are compiled together, in Rust each alone. The compiler must name a line of each, and print there what the row's pattern matches. All
-others are run. A wrong use that is granted is of a kind that docs/GUIDE.md names."""
+"""What happens where a call of the bindings is used wrongly, by the tables that rows/wrong_uses.py reads. A row has code that uses a call wrongly,
+and its outcome, such as `does not compile` or `is granted`. Rows that do not compile (in Python: that mypy refuses) are compiled together, in Rust
+each alone. The compiler must name a line of each, and print there what the row's pattern matches. All other rows are run. A wrong use that is
+granted is of a kind that docs/GUIDE.md names."""
 import os
 import pathlib
 import subprocess
