@@ -45,8 +45,8 @@ impl<'x> Called<'x> for Doc<'_> {
     }
 }
 
-/// A line with the number of the document's root, then a line for each number from 0 on, up to and with the first that is no node: all fields
-/// of its line are None. `most` is the number of octets of the text, which is at least the number of nodes.
+/// A line with the number of the document's root, then a line for each number from 0 on, up to and with the first that is no node: the fields
+/// of its line are `None` and `-`. `most` is the number of octets of the text, which is at least the number of nodes.
 fn nodes(alloc: Global, document: &Doc, most: usize) -> Reply {
     let mut out = format!(in alloc; "root {}\n", document.root().0)?.into_bytes();
     push_nodes(alloc, &mut out, document, most)?;
@@ -112,8 +112,8 @@ fn push_octets(out: &mut Vec<u8>, octets: Option<&[u8]>) -> Result<(), AllocErro
     }
 }
 
-/// The answer of a call that reads the root. `octets` are the row's second text. `read` requires that its node exists, and the test shows
-/// this to the prover.
+/// The answer of a call that reads the root. `octets` are the row's second text. `read` requires that its node exists, and the test for None
+/// shows this to the prover: each root is a node, so the call never returns `Unknown` there.
 fn of_root(alloc: Global, name: &str, document: &Doc, octets: &[u8]) -> Reply {
     let root = document.root();
     if document.node(root).is_none() {

@@ -57,9 +57,9 @@ fn name_of(limits: &Limits) -> &'static str {
     "others"
 }
 
-/// The limits with these numbers of octets and nodes, in decimal digits. Any other text stands for the greatest limit, and a greater number is
-/// lowered to it, so None does not occur. Certificates and strings have no limit; work and the answer have the default ones. The word `usual` in
-/// place of the octets means that all limits are the default ones.
+/// The limits with these numbers of octets and nodes, in decimal digits. Any other text stands for the greatest limit, 1,048,576 octets or 1,000,000
+/// nodes, and a greater number is lowered to it, so None does not occur. Certificates and strings have no limit; work and the answer have the
+/// default ones. The word `usual` in place of the octets means that all limits are the default ones.
 fn limits(octets: &[u8], nodes: &[u8]) -> Option<Limits> {
     if octets == b"usual".as_slice() {
         return Some(Limits::default());

@@ -61,7 +61,7 @@ fn with_other(alloc: Global, name: &str, tag: &Tag, texts: &[Vec<u8>]) -> Reply 
 }
 
 /// Does the call with this name on two tags. The `_` arm is `Index::places`. `most` is for `Tag::meet_within`: the limit on
-/// the product of the tags' numbers of nodes, in digits. A number over 1,000,000, or no number, is 1,000,000.
+/// the product of the tags' numbers of nodes, in digits. A number over 1,000,000, the greatest limit that it allows, or no number, is 1,000,000.
 fn of_both(alloc: Global, name: &str, tag: &Tag, other: &Tag, most: &[u8]) -> Reply {
     match name {
         "Tag::same" => answer(alloc, tag.same(other)),

@@ -192,7 +192,8 @@ impl<'x> Called<'x> for Vec<Step<'x>> {
 }
 
 /// The answer of `fold_owned`, which consumes the first authorization. The first two texts are its limits: the greatest product of the nodes of two
-/// tags, lowered to 1,000,000 since `fold_owned` requires that, and the bound on work, empty for none. After them are the texts of the first tuple. `steps` are the other tuples.
+/// tags, lowered to 1,000,000 since `fold_owned` requires that, and the bound on work, empty for none. After them are the texts of the first tuple.
+/// `steps` are the other tuples.
 fn owned_chain<'x>(alloc: Global, steps: &[Step<'x>], texts: &'x [Vec<u8>]) -> Reply {
     let first = five(alloc, behind(texts, 2))?;
     let most = number(at(texts, 0)).min(1_000_000);

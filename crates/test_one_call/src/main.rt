@@ -6,7 +6,8 @@
 //! when nothing else is left to prove. The head of `test_calls` says why values are moved to `answer` or dropped by a call.
 //!
 //! If memory runs out for a row, its line is `refused Memory`. If its call is unknown or its digits are malformed, it is `refused Unknown`. In both
-//! cases the rows after it are still answered, and the program ends with status 2. `tests/suite/test_hostile.py` refuses each allocation of a call in turn.
+//! cases the rows after it are still answered, and the program ends with status 2. `tests/suite/test_hostile.py` refuses each allocation of a call
+//! in turn.
 #![tactic(auto)]
 
 mod callers;

@@ -1,4 +1,5 @@
-//! The call `run`, from a reader and to a writer that may fail; and meters.
+//! The call `run`, from a reader and to a writer that may fail; and meters. A `Metered` stream passes each call on to the stream inside, and counts
+//! calls and faults. A call is done for a row of a test table: the call's name, and its arguments, the texts.
 
 ghost use Rattle.std.specs.Prelude.{◌≡◌, ◌≤◌, IfOk};
 
@@ -166,8 +167,8 @@ fn command(word: &[u8]) -> Command {
 }
 
 /// Runs a command. The first text is its word, the second what the reader gives, and then there are three texts for the reader and three or four for
-/// the writer, as for `TestStream::new`. The answer is the exit status; the reader's calls, its faults, whether it ended, how many octets are left; the
-/// writer's calls, its faults, whether it was flushed; and what was written.
+/// the writer, as for `TestStream::new`. The answer is the exit status; the reader's calls, its faults, whether it ended, how many octets are left;
+/// the writer's calls, its faults, whether it was flushed; and what was written.
 fn run(alloc: Global, texts: &[Vec<u8>]) -> Reply {
     let mut reader = Metered::new(TestStream::new(alloc, at(texts, 1), behind(texts, 2)));
     let mut writer = Metered::new(TestStream::new(alloc, b"", behind(texts, 5)));
@@ -200,8 +201,8 @@ fn read_once(alloc: Global, texts: &[Vec<u8>]) -> Reply {
     metered_reply(alloc, count, &buffer, asks, faults, &meter.into_inner())
 }
 
-/// Writes octets, the first text, once through a meter, and flushes. The other texts are for `TestStream::new`. The answer is that of `metered_reply`,
-/// for the octets that were written.
+/// Writes octets, the first text, once through a meter, and flushes. The fault of a flush shows in the meter's count, so its result is dropped. The
+/// other texts are for `TestStream::new`. The answer is that of `metered_reply`, for the octets that were written.
 fn write_once(alloc: Global, texts: &[Vec<u8>]) -> Reply {
     let mut meter = Metered::new(TestStream::new(alloc, b"", behind(texts, 1)));
     let count = count_of(meter.write(at(texts, 0)))?;
