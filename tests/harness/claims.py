@@ -83,8 +83,8 @@ class Sources:
 
 
 def unclaimed(page: str, header: str, source: str) -> Iterator[str]:
-    """A line for each function `spki_c_..` of a source that no row of the page's section `spki_c` has, and for each call of a header that has no such
-    function of its name and whose name, or an end of it from a `_` on, is not in the words before the rows. All three are paths."""
+    """A line for each function `spki_c_..` of a C source that no row of the page's section `spki_c` has; and for each call of a header that neither
+    has such a function of its name nor is explained before the rows, by its name or by an ending such as `_close`. All three are paths."""
     section = next(rows for head, rows in SECTION.findall(text_of(page)) if head == "`spki_c`")
     introduction, _, rows = section.partition("\n|")
     exports = set(re.findall(r"^\w[\w *]*\b(spki_c_\w+)\(", text_of(source), re.MULTILINE))

@@ -29,7 +29,8 @@ class Bounds(unittest.TestCase):
 
     def test_named_texts(self) -> None:
         """A row of NAMED, a text that was slow once, names its calls by how their names begin: each beginning is that of a call. The text for the
-        first such call is no larger than call and row allow. Except for `intersect` its list gets at most 4,096 octets, so that the test is fast."""
+        first such call is no larger than call and row allow: `listed` and `asked` are the most octets of the list and of the question. Except for
+        `intersect` the list gets at most 4,096 octets, so that the test is fast."""
         for named in self.slowest.NAMED:
             for word in named.words:
                 self.assertTrue([call for call in self.slowest.CALLS if call.what.startswith(word)], (named.what, word))

@@ -54,9 +54,6 @@ def question(sequence, asker, request=REQUEST, moment=NOON):
     return spki.Question(sequence if isinstance(sequence, bytes) else canonical(sequence), key, words=request, moment=moment)
 
 
-# ---- random lists and questions
-
-
 class RandomMaker:
     """Makes random entries and questions about KEYS keys. All parts are values: octets, or a list of values. A choice that is listed twice is made
     twice as often."""

@@ -1,6 +1,6 @@
 """The parts of the gate (.ci/run and .ci/deep): what bash runs of its file, which functions a wrong body changes, which output of a check refuses it,
 which contracts the deep run has tried, how logs are counted, what the gate runs, that all that a command writes is printed, and that one which takes
-too long is ended. A wrong body is an edit of a function that its contract must refuse. The toolchain's texts here are those that it printed in runs."""
+too long is ended. A wrong body is an edit of a function that its contract must refuse. Texts of the toolchain are those that it printed in runs."""
 import contextlib
 import io
 import os

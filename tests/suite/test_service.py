@@ -49,7 +49,8 @@ class LastingStory(Story):
 
 
 def chain_requests(story: LastingStory) -> Iterator[tuple[str, Sent, bool]]:
-    """Requests with right certificates, with wrong ones and with none. Yields for each a remark, the request, and whether it must be granted."""
+    """Requests with right certificates, with wrong ones and with none. Yields for each a remark, the request, and whether it must be granted. By
+    `asked_by` a key pair signs a request for READ or other words, with a sequence; `signed` is a certificate with its signature by a pair."""
     alice, bob, carol = story.alice, story.bob, story.carol
     good = signed(story.to_carol, bob)
     longer = story.to_carol.replace("9999-06-30", "9999-07-31")

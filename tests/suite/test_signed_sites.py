@@ -67,32 +67,37 @@ class OfSites(unittest.TestCase):
         self.site.cert("sign", "--by", "keys/ann", "--to", "keys/ben.pub", *right, "--force", "-o", "b")
         ben = self.fields("ben", PAGE, "--cert", "b")
         self.assertEqual(self.status("GET", PAGE, *ben), 200)
-        self.assertEqual([self.site.status("ben", "GET", PAGE), self.status("GET", PAGE, *self.fields("ben", PAGE))], [401, 401])
+        self.assertEqual(self.statuses_of_ben(), [401, 401])
         certificate = next(line for line in ben if line.startswith("X-Spki-Sequence"))
         self.assertEqual(self.status("GET", PAGE, *self.fields("ben", PAGE), certificate), 403)
+
+    def statuses_of_ben(self) -> list[int]:
+        """The statuses of Ben's requests for PAGE that show no certificate of SPKI: one by his certificate of TLS, and one that he signs."""
+        return [self.site.status("ben", "GET", PAGE), self.status("GET", PAGE, *self.fields("ben", PAGE))]
 
     def check_left_chain(self) -> None:
         """Ben leaves Ann's certificate with the daemon, by a request that counts once. Then his requests need nothing but his key, by a signature or
         by TLS. Before that each request of `wrong`, a method, a path, lines and a body, is refused. `check_chain` has written the file `b`."""
-        place, body = attacks.LEAVING, self.site.text("b")
-        sent, nothing = self.fields("ben", place, "--body", "b"), list[str]()
+        path, body = attacks.LEAVING, self.site.text("b")
+        signed, unsigned = self.fields("ben", path, "--body", "b"), list[str]()
+        # (signed by Eve, or for another body, path or method, or not at all; or with a query, which the path to leave certificates must not have)
         wrong: list[tuple[str, str, list[str], str]] = [
-            ("PUT", place, self.fields("eve", place, "--body", "b"), body), ("PUT", place, self.fields("ben", place, "--body", "etc/acl.sexp"), body),
-            ("PUT", f"{place}?GET={PAGE}", sent, body), ("PUT", place, sent, body + " "), ("PUT", place, nothing, body),
-            ("PUT", place, ["X-Client-Cert: x"], body), ("POST", place, sent, body), ("GET", place, sent, ""),
-            *(("PUT", place + query, self.fields("ben", place + query, "--body", "b"), body) for query in ("?", f"?GET={PAGE}"))]
-        for method, path, lines, text in wrong:
+            ("PUT", path, self.fields("eve", path, "--body", "b"), body), ("PUT", path, self.fields("ben", path, "--body", "etc/acl.sexp"), body),
+            ("PUT", f"{path}?GET={PAGE}", signed, body), ("PUT", path, signed, body + " "), ("PUT", path, unsigned, body),
+            ("PUT", path, ["X-Client-Cert: x"], body), ("POST", path, signed, body), ("GET", path, signed, ""),
+            *(("PUT", path + query, self.fields("ben", path + query, "--body", "b"), body) for query in ("?", f"?GET={PAGE}"))]
+        for method, target, lines, text in wrong:
             # (502 where the daemon has answered before the web server has passed on the body)
-            self.assertIn(self.status(method, path, *lines, body=text), (*range(400, 500), 502), (method, path))
-        self.assertEqual([self.site.status("ben", "GET", PAGE), self.status("GET", PAGE, *self.fields("ben", PAGE))], [401, 401])
-        self.assertEqual([self.status("PUT", place, *sent, body=body) for _ in range(2)], [201, 403])
-        self.assertEqual([self.site.status("ben", "GET", PAGE), self.status("GET", PAGE, *self.fields("ben", PAGE))], [200, 200])
+            self.assertIn(self.status(method, target, *lines, body=text), (*range(400, 500), 502), (method, target))
+        self.assertEqual(self.statuses_of_ben(), [401, 401])
+        self.assertEqual([self.status("PUT", path, *signed, body=body) for _ in range(2)], [201, 403])
+        self.assertEqual(self.statuses_of_ben(), [200, 200])
         self.assertEqual(self.status("GET", "/secret/plan.txt", *self.fields("ben", "/secret/plan.txt")), 401)
         sender = attackers.Attackers(self.site, self.site.form)
         for each in attacks.with_statuses(attacks.attacks_on_left_certificates(), attacks.UNCLEAR):
             answer = self.site.answer(each.who, sender.filled(each.octets))
             self.assertLessEqual(set(attackers.statuses(answer) or [0]), each.must, each.what)
-        address = f"https://localhost:{self.site.port}{place}"
+        address = f"https://localhost:{self.site.port}{path}"
         self.site.cert("request", "--by", "keys/ben", "--body", "b", "--curl", address, "--", "--silent", "--fail", "--cacert", "ca/ca.crt")
 
     def check_curl(self) -> None:
