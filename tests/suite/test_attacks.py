@@ -108,7 +108,7 @@ class Table(unittest.TestCase):
         """`kind.sites` has lines of other sites, by name. With each the server grants nothing of `attackers.ASKED`, which the daemon denies, nor of
         `attackers.GRANTED` while the daemon is stopped. Lines named `.. that fails` may deny Ann too. The gate runs about a third of them."""
         for name, more in self.kind.sites.items():
-            if not is_chosen(f"{self.kind.name}, {name}", 3):
+            if not is_chosen(f"{self.kind.name}, {name}", share=3):
                 continue
             self.site.restart_with(more)
             with self.subTest(name):

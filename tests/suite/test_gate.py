@@ -175,7 +175,7 @@ class Logs(unittest.TestCase):
                 ("rt: must-fail low/x.edit: BAD EDIT: it did not reach the prover; ..\nrt: ok\n3 passed, 0 failed\n", 0, (3, 1)),
                 ("3 passed, 0 failed\n", 1, (3, 1)), ("3 passed, 0 failed\nand more\n", 0, (0, 1)), ("", 0, (0, 1)), ("", -9, (0, 1))]:
             self.assertEqual(self.counts(output, status)[:2], wanted, output)
-        self.assertEqual([self.counts("none", status, False)[:2] for status in (0, 1)], [(1, 0), (0, 1)])
+        self.assertEqual([self.counts("none", status, has_counts=False)[:2] for status in (0, 1)], [(1, 0), (0, 1)])
 
     def test_what_is_left_out(self) -> None:
         """Lines `skipped: WHAT` and `WHAT are left out` say what was left out."""

@@ -142,7 +142,7 @@ class Person:
         self.public = f"{self.path}.pub"
         subprocess.run(["openssl", "pkey", "-in", self.path, "-pubout", "-out", self.public], check=True)
         self.key = spki_cert("key", self.public).decode()
-        self.digest = value_of(spki_cert("key", "--hash", self.public))[2].hex()
+        self.digest = value_of(spki_cert("key", "--hash", self.public))[2].hex()  # (of `(hash sha256 DIGEST)`)
 
     def gives(self, to: "Person", tag: str, *more: str) -> bytes:
         """The sequence of a certificate by which this person gives a right to another for a day. `more` are options of `spki-cert sign`."""

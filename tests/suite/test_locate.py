@@ -140,7 +140,7 @@ def refusal_of_part(name, text):
     """The line by which the model refuses a part of a question, or None if it accepts it. `name` is `acl` or a key of MODEL. `text` has octets."""
     try:
         if name == "acl":
-            guard.open_guard(text, False, guard.USUAL)
+            guard.open_guard(text, strict=False, limits=guard.USUAL)
         else:
             guard.part(name, MODEL[name], text)
     except Refused as why:

@@ -85,7 +85,7 @@ class Generated(built.OfProgram):
         with tempfile.TemporaryDirectory() as folder:
             archive = None if built.IS_ALONE else built.library()
             comparison = differential.comparison_of(cls.program, archive, folder, cls.seed)
-            cls.differ, cls.ended, cls.rows = differential.compare(comparison, 0, built.CASES, os.cpu_count() or 1)
+            cls.differ, cls.ended, cls.rows = differential.compare(comparison, first=0, cases=built.CASES, jobs=os.cpu_count() or 1)
             cls.described = {number: differential.lines_of_case(comparison, number) for number in cls.differ[:differential.SHOWN]}
         cls.described.update({number: differential.line_of_ended(cls.seed, number) for number in cls.ended})
         cls.by_program = comparison.by_program
@@ -117,7 +117,7 @@ class GeneratedOnArm(built.OfProgram):
             self.assertTrue(is_compiled("aarch64-linux-gnu-gcc", "-std=c11", "-O1", "-o", relay, source, built.arm()))
             relayed = Relayed([*ON_ARM, relay])
             comparison = differential.Comparison(differential.Library(relayed), self.program, seed)
-            differ, ended, _ = differential.compare(comparison, 0, cases, os.cpu_count() or 1)
+            differ, ended, _ = differential.compare(comparison, first=0, cases=cases, jobs=os.cpu_count() or 1)
             described = [differential.lines_of_case(comparison, number) for number in differ[:differential.SHOWN]]
             relayed.close()
         self.assertEqual((described, ended), ([], []), f"cases 0 to {cases}, seed {seed}")

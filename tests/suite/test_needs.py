@@ -27,6 +27,6 @@ class Needs(unittest.TestCase):
         with tempfile.TemporaryDirectory() as folder:
             pathlib.Path(folder, "test_gone.py").write_text("import unittest\nraise unittest.SkipTest('there is no such command')\n")
             tests = list(running.flattened(unittest.TestLoader().discover(folder, top_level_dir=folder)))
-        outcome, = running.run_all(tests, 1, False, "tests/run")
+        outcome, = running.run_all(tests, jobs=1, stops_early=False, command="tests/run")
         self.assertEqual(outcome.name, "test_gone")
         self.assertIn("there is no such command", "".join(outcome.failed.values()))

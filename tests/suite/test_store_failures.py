@@ -96,8 +96,8 @@ class WithOwnServers(test_store.OfServed):
         """Starts a replica of a server by settings of PostgreSQL. `at` and `mib` are as in `primary`: a node, and the size of a disk of its own."""
         return self.enter(primary.replica(at, mib, **settings))
 
-    def network(self, count: int) -> list[networks.Node]:
-        """Makes a network, and returns so many nodes of it."""
+    def make_nodes(self, count: int) -> list[networks.Node]:
+        """Makes a network with so many nodes, and returns them."""
         network = self.enter(networks.Network())
         return [network.node() for _ in range(count)]
 
@@ -125,11 +125,11 @@ class Questions(WithOwnServers):
         cls.questions = os.path.join(room, "questions")
         golang.go(golang.DAEMON, ["test", *test_store.WITH_DRIVER, "-c", "-o", cls.questions, "."], cls.library).check_returncode()
 
-    def ask_while(self, host: str, writers: list[Server], fails: Callable[[], None], *before: str, root: str = "") -> None:
-        """Runs the generated questions of the daemon's tests on the store at `host`, a host of libpq. A second later calls `fails`, which makes
-        something fail and mends it. The questions go on until it returns, and all answers must be right. The list is changed on the one of `writers`
-        that can be written to. `before` is a command that runs the questions, as words. `root` is the path of the certificate that TLS trusts, or
-        empty for no TLS. Prints how many answers of each kind there were."""
+    def ask_while(self, host: str, writers: list[Server], fail_and_mend: Callable[[], None], *before: str, root: str = "") -> None:
+        """Runs the generated questions of the daemon's tests on the store at `host`, a host of libpq. A second later calls `fail_and_mend`. The
+        questions go on until it returns, and all answers must be right. The list is changed on the one of `writers` that can be written to. `before`
+        is a command that runs the questions, as words. `root` is the path of the certificate that TLS trusts, or empty for no TLS. Prints how many
+        answers of each kind there were."""
         end = os.path.join(self.room, "end")
         settings = {**golang.settings(self.library), "SPKI_STORE_HOST": host, "SPKI_STORE_ROOT": root, "SPKI_STORE_SCHEMA": self.schema,
                     "SPKI_STORE_WRITERS": ",".join(each.folder for each in writers), "SPKI_STORE_SEED": str(secrets.randbelow(1 << 32)),
@@ -140,7 +140,7 @@ class Questions(WithOwnServers):
             with databases.killed_at_end(process):
                 time.sleep(1)
                 try:
-                    fails()
+                    fail_and_mend()
                 finally:
                     self.file(b"", "end")  # (the questions end once this file is there)
                 status = process.wait(databases.SECONDS)
@@ -165,43 +165,43 @@ class Questions(WithOwnServers):
         replicas = [self.replica(primary) for _ in range(2)]
         make_synchronous(primary)
 
-        def fails() -> None:
+        def fail_and_mend() -> None:
             primary.kill()
             time.sleep(FAILING)
             promoted = replicas[1] if octets_received(replicas[1]) > octets_received(replicas[0]) else replicas[0]
             promoted.promote()
             if promoted is replicas[0]:
                 test_store.follow(replicas[1], promoted)
-        self.ask_while(replicas[1].folder, [primary, *replicas], fails)
+        self.ask_while(replicas[1].folder, [primary, *replicas], fail_and_mend)
 
     def test_replica_that_lags(self) -> None:
         """A replica replays nothing for FAILING seconds, and then for as long each the changes of 1, 4, 2 and 0 seconds ago."""
         primary = self.primary()
         replica = self.replica(primary)
 
-        def fails() -> None:
+        def fail_and_mend() -> None:
             execute(replica, "SELECT pg_wal_replay_pause()")
             time.sleep(FAILING)
             execute(replica, "SELECT pg_wal_replay_resume()")
             for delay in ("1s", "4s", "2s", "0"):
                 execute(replica, f"ALTER SYSTEM SET recovery_min_apply_delay = '{delay}'", "SELECT pg_reload_conf()")
                 time.sleep(FAILING)
-        self.ask_while(replica.folder, [primary], fails)
+        self.ask_while(replica.folder, [primary], fail_and_mend)
 
     def test_wrong_clock(self) -> None:
         """The primary's clock is wrong by more and by less than STALE seconds, and jumps. To the daemon this is as if its own clock were wrong."""
         primary = self.primary()
         replica = self.replica(primary)
 
-        def fails() -> None:
+        def fail_and_mend() -> None:
             for seconds in (20, -20, 2, -2, 0.5, -3600, 3600, 0):
                 execute(primary, f"UPDATE {self.schema}.error SET by = '{seconds} s'")
                 time.sleep(FAILING)
-        self.ask_while(replica.folder, [primary], fails)
+        self.ask_while(replica.folder, [primary], fail_and_mend)
 
     @needs.needs("ip")
     def test_network_between_servers(self) -> None:
-        first, second = self.network(2)
+        first, second = self.make_nodes(2)
         primary = self.primary(SHORT_WAITS, first)
         replica = self.replica(primary, at=second)
         self.ask_while(replica.folder, [primary], lambda: cut_twice(second))
@@ -209,7 +209,7 @@ class Questions(WithOwnServers):
     @needs.needs("ip")
     def test_network_to_the_store(self) -> None:
         """The questions are asked at a second node, which reads the store over a network, by TLS. This node is cut off."""
-        first, second = self.network(2)
+        first, second = self.make_nodes(2)
         primary = self.primary(at=first)
         root = self.give_certificate(primary)
         self.ask_while(primary.host, [primary], lambda: cut_twice(second), *second.words, root=root)
@@ -218,29 +218,29 @@ class Questions(WithOwnServers):
     def test_full_disk_of_the_primary(self) -> None:
         primary = self.primary(SMALL_LOG, mib=SMALL_DISK)
 
-        def fails() -> None:
+        def fail_and_mend() -> None:
             filler = fill(primary.folder)
             write_until_it_ends(primary)
             time.sleep(FAILING)
             os.unlink(filler)
-            primary.kill()
+            primary.kill()  # (it has ended already: this forgets its process)
             primary.start()
-        self.ask_while(primary.folder, [primary], fails)
+        self.ask_while(primary.folder, [primary], fail_and_mend)
 
     @needs.needs("ip")
     def test_full_disk_of_a_replica(self) -> None:
         primary = self.primary()
         replica = self.replica(primary, SMALL_LOG, mib=2 * SMALL_DISK)
 
-        def fails() -> None:
+        def fail_and_mend() -> None:
             filler = fill(replica.folder)
             # (each switch begins a new file of the log, which the replica has no room for)
             execute(primary, *["SELECT pg_switch_wal()", f"UPDATE {self.schema}.error SET by = by"] * 4)
             time.sleep(FAILING)
             os.unlink(filler)
-            replica.kill()
+            replica.kill()  # (it may have ended, or wait for room)
             replica.start()
-        self.ask_while(replica.folder, [primary], fails)
+        self.ask_while(replica.folder, [primary], fail_and_mend)
 
 
 class Daemons(WithOwnServers):
@@ -251,7 +251,7 @@ class Daemons(WithOwnServers):
         """The daemon `old` reads the primary, `near` the first replica, and `far` the second one, over a network. The first replica is cut from the
         primary, `far` from its replica, and the primary from all others. Then the first replica takes its place. The old primary comes back, and
         `old` grants nothing for 4 seconds, longer than a state may be old."""
-        nodes = self.network(4)
+        nodes = self.make_nodes(4)
         primary = self.primary(SHORT_WAITS, nodes[0])
         replicas = [self.replica(primary, at=each) for each in nodes[1:3]]
         make_synchronous(primary)
@@ -296,7 +296,7 @@ class Daemons(WithOwnServers):
         status 3. No change is half done, and the daemon decides by the entries that are there. On a larger disk `spki-store` removes again."""
         primary, room = self.primary(), tempfile.mkdtemp()
         self.addCleanup(os.rmdir, room)
-        databases.mount(room, 3)
+        databases.mount(room, mib=3)
         self.addCleanup(databases.unmount, room)
         subprocess.run(["chown", "postgres:postgres", room], check=True)
         self.server = primary
