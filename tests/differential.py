@@ -234,7 +234,7 @@ def compare(comparison: Comparison, first: int, cases: int, jobs: int) -> tuple[
         numbers = range(first + job, first + cases, jobs)
         process = multiprocessing.Process(target=run_job, args=(comparison, numbers, at, job, sender))
         process.start()
-        sender.close()
+        sender.close()  # (so that the pipe ends with the process)
         workers.append((results, process))
     differ: list[int] = []
     ended: list[int] = []

@@ -20,8 +20,8 @@ OTHERS, BY_WORD = ("python3-venv",), {"Python": "python3", "Go 1.": "golang-go",
 
 
 def packages_of(page: str) -> list[str]:
-    """The Debian packages that the text `page` names, sorted: those of OTHERS and of the tests' needs that are in backticks, or if it has none are
-    words of it; and those for which BY_WORD has words of it."""
+    """The Debian packages that the text `page` names, sorted: those of OTHERS and of the tests' needs that it has in backticks, or as plain words if
+    it has no backticks; and those for whose word in BY_WORD the text has this word."""
     # (a page of the manual has `\-` for a hyphen)
     words = re.findall(r"`([^`\n]+)`", page) or re.split(r"[^\w.+-]+", page.replace("\\-", "-"))
     packages = {*(need.package for need in needs.NEEDS), *OTHERS}

@@ -96,7 +96,7 @@ class Program:
         for end, _ in places:
             os.close(end)
         out, err, report = (read_to_end(reader) for reader, _ in ends)
-        # (the report has asked and refused for each of NAMES, and the requests for memory before the first read; nothing if a signal ended the run)
+        # (for each of NAMES how many requests there were and were refused, then those for memory before the first read; nothing if a signal ended it)
         *counts, before_reads = [int(word) for word in report.split()[:7]] or [0] * 7
         status = os.waitstatus_to_exitcode(os.waitpid(child, 0)[1])
         return Ended(status, out, err, dict(zip(NAMES, counts[::2])), sum(counts[1::2]), before_reads)
@@ -109,7 +109,7 @@ class Program:
         return child
 
     def limited(self, command, text, resource_number, most):
-        """Runs a command with a resource, such as `resource.RLIMIT_AS`, limited to `most`, in the unit of setrlimit. It writes into a file."""
+        """Runs a command with a resource, such as `resource.RLIMIT_AS`, limited to `most`, in the unit of setrlimit, and a file as its output."""
         with tempfile.TemporaryFile() as out:
             child = self.start(command, descriptor_of(text), out, preexec_fn=lambda: self.limit(resource_number, most))
             run = ended(child)

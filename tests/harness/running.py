@@ -123,7 +123,7 @@ def catching_outputs() -> Iterator[io.StringIO]:
 
 
 def run_part(name: str, tests: list[unittest.TestCase], stops_early: bool) -> Outcome:
-    """Runs some tests of the class of this name. `stops_early`: it begins none after the first that fails."""
+    """Runs some tests of the class of this name, and returns their outcome. `stops_early`: no test begins after the first that fails."""
     outcome, begun = Outcome(name), time.monotonic()
     with catching_outputs() as caught:
         unittest.TestSuite(tests).run(Result(outcome, stops_early))
@@ -225,7 +225,7 @@ def as_they_end(started: dict[Future, str]) -> Iterator[Future]:
 
 
 def run_all(tests: list[unittest.TestCase], jobs: int, stops_early: bool, command: str) -> list[Outcome]:
-    """Runs tests in `jobs` processes, and prints their outcomes. Returns one for each part. `stops_early`: it begins none after the first that fails.
+    """Runs tests in `jobs` processes, and prints their outcomes. Returns one for each part. `stops_early`: no part begins after the first failure.
     `command`, with the name of a test behind it, runs this test alone. A whole module that is skipped has its part here, without a process."""
     parts = parts_of(tests)
     report = Report(parts, command)

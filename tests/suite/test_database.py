@@ -83,7 +83,7 @@ class RandomMaker:
         return canonical(self.principal(self.random.choice(self.keys))), fields, names
 
     def certificate(self, issuer, subject):
-        """A certificate from one key to another, of an authorization or of a name."""
+        """A certificate from one key to another. It gives an authorization, or one in four times defines the issuer's name `friends`."""
         owner = self.principal(issuer)
         if self.random.random() < 0.25:
             return [b"cert", [b"issuer", [b"name", owner, b"friends"]], [b"subject", self.principal(subject)], *self.validity()]

@@ -81,6 +81,7 @@ def dead_paths(page, names):
         word = re.sub(r"^(?:\.\./|\./)+", "", word.rstrip(".,;:)"))
         if not PATH.match(word) or "out/" in f"{word}/" or PLACEHOLDER.search(word) or word in MADE_ELSEWHERE | written:
             continue
+        # (a word with a `/` is a path if it begins with the name of a folder or a file that is here)
         first, is_bare_file = word.split("/")[0], "/" not in word and word.endswith(KINDS)
         is_path = "/" in word and any(os.path.exists(os.path.join(base, first)) for base in bases(page))
         is_there = any(glob.glob(os.path.join(base, word)) for base in bases(page))

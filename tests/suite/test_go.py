@@ -119,7 +119,7 @@ class OverSocket(http.client.HTTPConnection):
     """A connection to a Unix socket. If the program there does not answer for 60 seconds, TimeoutError is raised."""
 
     def __init__(self, path: str) -> None:
-        super().__init__("daemon", timeout=60)
+        super().__init__("daemon", timeout=60)  # (the name is only sent in the field Host)
         self.path = path
 
     def connect(self) -> None:

@@ -305,7 +305,7 @@ class Daemons(WithOwnServers):
         execute(primary, f"CREATE TABLESPACE small LOCATION '{room}'", f"ALTER TABLE {self.schema}.entries SET TABLESPACE small",
                 f"ALTER TABLE {self.schema}.changes SET TABLESPACE small", f"ALTER INDEX {self.schema}.changes_pkey SET TABLESPACE small")
         self.addCleanup(execute, primary, f"DROP SCHEMA {self.schema} CASCADE", "DROP TABLESPACE small")
-        number = self.add_entry(alice)
+        number_of_alice = self.add_entry(alice)
         authd.wait_for_status(200, alice)
         listed = [test_store.key_entry(b"k%06d" % place, b"(1:*)") for place in range(20_000)]
         path = self.file(b"(3:acl" + b"".join(listed) + b")")
@@ -314,15 +314,15 @@ class Daemons(WithOwnServers):
         # (an import adds entries in batches, and some of them had room)
         (count,), = self.store.rows("SELECT count(*) FROM {entries}")
         self.assertTrue(1 < count < len(listed))
-        # (some changes still find room in pages of the database, so the disk counts as full after ten failures in a row)
+        # (from the last entry on. Some changes still find room in pages of the database, so the disk counts as full after ten failures in a row)
         failed = 0
         while failed < 10:
             failed = 0 if self.is_removed(count) else failed + 1
             count -= 1
-        self.spki_store(3, "remove", str(number))
+        self.spki_store(3, "remove", str(number_of_alice))
         self.assertEqual((authd.status(alice), authd.status(bob)), (200, 401))
         subprocess.run(["mount", "-o", "remount,size=16m", room], check=True)
-        self.spki_store(0, "remove", str(number))
+        self.spki_store(0, "remove", str(number_of_alice))
         authd.wait_for_status(401, alice)
 
     def is_removed(self, number: int) -> bool:

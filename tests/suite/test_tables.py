@@ -47,6 +47,7 @@ def named_tests(rows: Iterable[Row]) -> Iterator[tuple[str, Test]]:
 def faults_of_pairs(program: str) -> list[str | None]:
     """What is wrong with the program's answer to each pair of sets, in the order of `pairs.rows`, or None if nothing is."""
     with ThreadPoolExecutor(os.cpu_count()) as pool:
+        # (`pairs.rows` composes the expected answers of what the program answers to pairs of members)
         rows = [Row(*row) for row in pairs.rows(lambda text: pool.submit(run, program, "intersect", text))]
         return list(pool.map(lambda row: fault_of(program, row), rows))
 
