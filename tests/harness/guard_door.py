@@ -240,7 +240,7 @@ class GuardDoor:
 
     def refuses_small_buffers(self, question: GuardQuestion, handle: c_void_p, asked: c_void_p) -> bool:
         """Whether the calls for a question return TOO_SMALL and write nothing, where the buffer is one octet too small. Opens the guard in `handle`
-        and the question in `asked`, which the caller closes."""
+        and the question in `asked`, which the caller closes. `status_too_small` is TOO_SMALL, and counts that a row of the model was reached."""
         status, line = self.open_guard(question, handle, ROOM)
         if status != DONE:
             status, buffer = self.open_guard(question, c_void_p(), len(line) - 1)

@@ -103,20 +103,20 @@ class Result(unittest.TestResult):
 
 @contextlib.contextmanager
 def catching_outputs() -> Iterator[io.StringIO]:
-    """A context that catches what this process and those that it starts write to the two outputs. Yields a text that has this once it has ended."""
+    """A context that catches what this process and those that it starts write to both outputs. Yields a text that has this once the context ended."""
     caught, originals = io.StringIO(), [os.dup(1), os.dup(2)]
     with tempfile.TemporaryFile() as file:
         sys.stdout.flush()
         sys.stderr.flush()
-        for place in (1, 2):
-            os.dup2(file.fileno(), place)
+        for descriptor in (1, 2):
+            os.dup2(file.fileno(), descriptor)
         try:
             yield caught
         finally:
             sys.stdout.flush()
             sys.stderr.flush()
-            for place, original in zip((1, 2), originals):
-                os.dup2(original, place)
+            for descriptor, original in zip((1, 2), originals):
+                os.dup2(original, descriptor)
                 os.close(original)
             file.seek(0)
             caught.write(file.read().decode(errors="replace"))

@@ -38,7 +38,7 @@ class Bounds(unittest.TestCase):
             listed = min(named.listed, call.listed if call.word == "intersect" else 4096)
             texts = self.slowest.sized(call, named.recipe, listed, named.asked)
             self.assertLessEqual(len(texts.list_text()), listed, named.what)
-            self.assertLessEqual(sum(map(len, texts.parts()[1:])), min(call.asked, named.asked), named.what)
+            self.assertLessEqual(sum(map(len, texts.parts()[1:])), min(call.asked, named.asked), named.what)  # (without the list)
 
     def test_the_search_is_repeated(self) -> None:
         """A recipe says how a text is made. 50 random changes of one give another one, the same both times, since the seed is the same."""

@@ -64,7 +64,7 @@ class OfCalls(unittest.TestCase):
         cls.answers = dict(zip(cls.rows, call_rows.answers(built.existing(cls.path), cls.rows.values())))
 
     def check_row(self, name: str) -> None:
-        """Fails with the row's texts if the program's answer to the row of this name, `no answer` for none, is not the expected one."""
+        """The program's answer to the row of this name must be the expected one. It is `no answer` if the program ended before this row."""
         row, answer = self.rows[name], self.answers.get(name, b"no answer")
         if answer != row.answer:
             texts = "\n".join(f"text   {shown(text)}" for text in row.texts)

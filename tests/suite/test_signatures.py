@@ -195,7 +195,7 @@ class VerifierInC(unittest.TestCase):
         answer, _, digest = line.partition(" ")
         if answer != "valid" or body is None:
             return answer
-        digests = {0: "" if body == b"" else "-", 64: hashlib.sha256(body).hexdigest(), 128: hashlib.sha512(body).hexdigest()}
+        digests = {0: "" if body == b"" else "another", 64: hashlib.sha256(body).hexdigest(), 128: hashlib.sha512(body).hexdigest()}
         return "valid" if digests[len(digest)] == digest else "other-digest"
 
     def compile(self, verifier: str, library: str) -> str:
