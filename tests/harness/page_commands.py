@@ -81,7 +81,7 @@ NOT_RUN = [
      "tests/suite/test_store.py builds the daemon, runs the commands on servers and tables of its own, and promotes a replica")]
 
 
-# ---- where commands stand
+# ---- finding commands
 
 
 def tracked() -> list[str]:
@@ -154,9 +154,6 @@ def commands_of_help() -> Iterator[Command]:
 def all_commands() -> list[Command]:
     """The commands of all pages and of the help."""
     return [*itertools.chain.from_iterable(map(commands_of, pages())), *commands_of_help()]
-
-
-# ---- what is known of each
 
 
 def covers(row: tuple[str, str, str], command: Command) -> bool:

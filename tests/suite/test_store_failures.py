@@ -16,7 +16,7 @@ from harness import built, databases, golang, needs, networks
 from harness.databases import Server
 from harness.support import room_for, waits_for
 from suite import test_store
-from suite.test_store import STALE, Store
+from suite.test_store import STALE, Person, Store, StoreDaemon
 
 import psycopg
 
@@ -266,12 +266,8 @@ class Daemons(WithOwnServers):
         self.add_entry(alice)
         number_of_bob = self.add_entry(bob)
         test_store.wait_for_all((old, near, far), 200, alice, bob)
-        for node, cut, others in ((nodes[1], near, (old, far)), (nodes[3], far, (old, near))):
-            node.cut()
-            cut.wait_for_status(503, alice)
-            self.assertEqual([each.status(alice) for each in others], [200, 200])
-            node.mend()
-            cut.wait_for_status(200, alice)
+        self.check_cut(nodes[1], alice, near, others=(old, far))
+        self.check_cut(nodes[3], alice, far, others=(old, near))
         nodes[0].cut()
         test_store.wait_for_all((old, near, far), 503, alice)
         replicas[0].promote()
@@ -289,6 +285,15 @@ class Daemons(WithOwnServers):
         # (no daemon granted Bob's requests longer than STALE seconds after his entry was removed)
         self.assertEqual([begun for begun, _ in granted if begun > removed + STALE], [])
         self.assertTrue(granted)
+
+    def check_cut(self, node: networks.Node, who: Person, daemon: StoreDaemon, others: tuple[StoreDaemon, ...]) -> None:
+        """While a node is cut from its network, `daemon` must fail to answer a person, and the other daemons must grant the request. Once the node
+        is back, `daemon` must grant it too."""
+        node.cut()
+        daemon.wait_for_status(503, who)
+        self.assertEqual({each.status(who) for each in others}, {200})
+        node.mend()
+        daemon.wait_for_status(200, who)
 
     @needs.needs("ip")
     def test_full_disk_for_entries(self) -> None:
