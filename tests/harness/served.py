@@ -45,8 +45,7 @@ def free_port() -> int:
 
 
 class Site:
-    """nginx and the daemon, both started, with their files in the new folder `room`. `web_servers.py` has other web servers. `who` names a client's
-    certificate and key, as `ann`, or `ann.crt ann` by their files. None: the client has no certificate."""
+    """nginx and the daemon, both started, with their files in the new folder `room`. `web_servers.py` has other web servers."""
 
     def __init__(self) -> None:
         self.room = tempfile.mkdtemp(prefix="site-")
@@ -153,7 +152,7 @@ class Site:
     # ---- asking
 
     def context(self, who: str | None) -> ssl.SSLContext:
-        """The TLS settings of a client, which are made once."""
+        """The TLS settings of a client. `who` names its certificate and key, as `ann`, or `ann.crt ann` by their files. None: it has none."""
         if who not in self.contexts:
             self.contexts[who] = context = ssl.create_default_context(cafile=self.at("ca/ca.crt"))
             if who is not None:

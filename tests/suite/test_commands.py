@@ -203,7 +203,8 @@ class OnMachines(built.OfLibrary):
             self.check_statuses(machine, by_root, by_user)
 
     def check_statuses(self, machine: Machine, by_root: list[str], by_user: list[list[str]]) -> None:
-        """Commands of root, then blocks of the user's, must end with status 0 or that of STATUSES. `Machine.blocks` says where each block begins."""
+        """Commands of root, then blocks of the user's, must end with status 0 or that of STATUSES. `Machine.blocks` says where each block begins. In
+        the output the page's name divides the two."""
         begin = "" if machine.blocks == "on" else "cd ~/clone\n"
         script = "cd ~/clone\n" + "".join(begin + script_of(lines) for lines in by_user)
         output = self.output(machine, f"echo '{END}' 0\n" + script_of(by_root), script)

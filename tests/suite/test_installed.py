@@ -131,9 +131,8 @@ class Installed(built.OfLibrary):
 
 @needs.needs(*needs.LIBRARY)
 class Uninstalled(built.OfLibrary):
-    """Uninstalling leaves only the files that were there before, wherever LIBDIR, a folder below the prefix, has put the libraries."""
-
     def test_files_left(self) -> None:
+        """Uninstalling leaves only the files that were there before, wherever LIBDIR, a folder below the prefix, has put the libraries."""
         for folder in ("/lib/", "lib/x86_64-linux-gnu"):
             with self.subTest(folder=folder), install(self.program, self.library, LIBDIR=folder)[0] as prefix:
                 self.assertTrue(os.path.exists(f"{prefix}/{folder}/libspki_c.so"))

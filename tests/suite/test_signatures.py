@@ -132,12 +132,12 @@ class SpkiCertRequest(unittest.TestCase):
         fields = self.output("request", "--by", "p256", "--cert", "chain.sexp", self.url)
         chain = self.output("show", "--braces", "chain.sexp").strip()
         self.assertIn(f"X-Spki-Sequence: {chain}\n", fields)
-        self.assertEqual(self.ask(fields.replace(chain, "{KDg6c2VxdWVuY2Up}")), (401, b"invalid-signature"))
+        self.assertEqual(self.ask(fields.replace(chain, "{KDg6c2VxdWVuY2Up}")), (401, b"invalid-signature"))  # (`(8:sequence)` in base64)
         self.assertEqual(self.ask(fields)[0], 200)
 
     @needs.needs("curl")
     def test_curl(self) -> None:
-        """curl sends what was signed, and spki-cert ends with the status of curl: 22 if `--fail` is given and the service answers with 401."""
+        """curl sends what was signed, and spki-cert ends with the status of curl: with `--fail` 22 for an answer of 401, here for another host name."""
         pathlib.Path(self.room, "body").write_bytes(bytes(range(256)) * 8192)
         self.assertTrue(self.output("request", "--by", "ed25519", "--curl", self.url, "--", "--silent").startswith("(10:public-key"))
         self.assertIn("200 OK", self.output("request", "--by", "rsa", "--method", "HEAD", "--curl", self.url, "--", "-s"))

@@ -49,13 +49,13 @@ class OfSites(unittest.TestCase):
         ann = self.fields("ann", PAGE)
         self.assertEqual([self.status("GET", PAGE, *ann) for _ in range(2)], [200, 403])
         self.assertIn("nonce-seen", self.site.text("log/authd.log"))
-        self.assertEqual(self.status("GET", "/secret/plan.txt", *self.fields("ann", "/secret/plan.txt")), 401)
-        self.assertEqual(self.status("GET", PAGE, *self.fields("eve", PAGE)), 401)
-        self.assertEqual(self.status("GET", PAGE), 401)
+        self.assertEqual(self.status("GET", "/secret/plan.txt", *self.fields("ann", "/secret/plan.txt")), 401)  # (without a right)
+        self.assertEqual(self.status("GET", PAGE, *self.fields("eve", PAGE)), 401)  # (without a right)
+        self.assertEqual(self.status("GET", PAGE), 401)  # (without a proof)
         self.assertEqual(self.status("GET", PAGE, *(line for line in self.fields("ann", PAGE) if not line.startswith("X-Spki-Public-Key"))), 403)
-        self.assertEqual(self.status("GET", "/web/out/main.js", *self.fields("ann", PAGE)), 403)
-        self.assertEqual(self.status("HEAD", PAGE, *self.fields("ann", PAGE)), 403)
-        self.assertEqual(self.status("PUT", PAGE, *self.fields("ann", PAGE), body="x"), 403)
+        self.assertEqual(self.status("GET", "/web/out/main.js", *self.fields("ann", PAGE)), 403)  # (signed for another path)
+        self.assertEqual(self.status("HEAD", PAGE, *self.fields("ann", PAGE)), 403)  # (signed for another method)
+        self.assertEqual(self.status("PUT", PAGE, *self.fields("ann", PAGE), body="x"), 403)  # (and without a body)
         self.assertEqual(self.status("GET", PAGE, *self.fields("ann", PAGE), "Signature: spki=:AAAA:"), self.second_line)
         self.assertEqual(self.site.status("ann", "GET", PAGE), 200)
         self.assertEqual(self.site.status("ann", "GET", PAGE, "Signature: spki=:AAAA:"), 403)
@@ -166,7 +166,7 @@ class WithRsync(web_servers.HAProxy):
     files = (*web_servers.HAProxy.files, "rsync.cfg", "rsync.lua")
 
     def prepare(self) -> None:
-        """Writes the files that HAProxy and the daemon of rsync read, and starts this daemon."""
+        """Writes the files that HAProxy and the daemon of rsync read, and starts this daemon on the free port `inner`."""
         self.settings["RSYNC_PORT"], self.inner = str(free_port()), free_port()
         super().prepare()
         os.mkdir(self.at("files/rsync"))

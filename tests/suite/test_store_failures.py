@@ -344,11 +344,11 @@ class Daemons(WithOwnServers):
         self.wait_for_beat()
         authd, alice, bob = self.start_daemon("full", primary), self.people["alice"], self.people["bob"]
         self.add_entry(alice)
-        number = self.add_entry(bob)
+        number_of_bob = self.add_entry(bob)
         authd.wait_for_status(200, bob)
         filler = fill(primary.folder)
         # (the log's last file, which has its full size from the beginning, still has room)
-        self.spki_store(0, "remove", str(number))
+        self.spki_store(0, "remove", str(number_of_bob))
         write_until_it_ends(primary)
         authd.wait_for_status(503, alice)
         authd.wait_for_status(503, bob)
