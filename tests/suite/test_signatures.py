@@ -137,7 +137,7 @@ class SpkiCertRequest(unittest.TestCase):
 
     @needs.needs("curl")
     def test_curl(self) -> None:
-        """curl sends what was signed, and spki-cert ends with the status of curl: with `--fail` 22 for an answer of 401, here for another host name."""
+        """curl sends what was signed, and spki-cert ends with curl's status: with `--fail` 22 for an answer of 401, here for another host name."""
         pathlib.Path(self.room, "body").write_bytes(bytes(range(256)) * 8192)
         self.assertTrue(self.output("request", "--by", "ed25519", "--curl", self.url, "--", "--silent").startswith("(10:public-key"))
         self.assertIn("200 OK", self.output("request", "--by", "rsa", "--method", "HEAD", "--curl", self.url, "--", "-s"))
