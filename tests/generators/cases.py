@@ -1,4 +1,4 @@
-"""Cases with a chain of certificates, most of which join, and rows that stand apart."""
+"""Cases with a chain of certificates, most of which join (the subject of one is the issuer of the next), and rows, which accept their signatures."""
 import hashlib
 import random
 from dataclasses import dataclass, field
@@ -68,7 +68,7 @@ class Builder:
         return (word("hash"), Atom(algorithm), Atom(digest), *uri)
 
     def subject(self, subject: Subject, issuer: Value | None = None) -> Value:
-        """A subject as it is written. Where its principal is the issuer's, the name may be relative."""
+        """A subject as it is written. If its key is that of the issuer, a name may be relative: `(name NAME ..)` without a principal."""
         if not subject.names:
             return self.principal(subject.key)
         relative = subject.key == issuer and self.rng.random() < 0.4
@@ -78,7 +78,7 @@ class Builder:
     def window(self) -> list[Value]:
         """The fields of a window that mostly contains the moment: some of `(not-before ..)` and `(not-after ..)`, or `(valid ..)` with them."""
         limits: list[Value] = []
-        earlier, later = [it for it in MOMENTS if it <= self.moment], [it for it in MOMENTS if it >= self.moment]
+        earlier, later = [date for date in MOMENTS if date <= self.moment], [date for date in MOMENTS if date >= self.moment]
         for head, fitting in (("not-before", earlier), ("not-after", later)):
             if self.rng.random() < 0.25:
                 limits.append((word(head), Atom(self.rng.choice(MOMENTS if self.by_chance(0.2) else fitting))))
@@ -126,7 +126,7 @@ class Builder:
             name = subject.names[0] if subject.names and not self.wrong() else self.rng.choice(NAMES)
             needed = [*version, (word("issuer"), (word("name"), principal, Atom(name))), subject_field]
             fields = self.fields(*needed, propagate=self.by_chance(0.01), ignored=ignored)
-            following.names += subject.names[1:]
+            following.names += subject.names[1:]  # (the definition replaces the first name)
         else:
             needed = [*version, (word("issuer"), principal), subject_field, self.tag()]
             fields = self.fields(*needed, propagate=not is_last and not self.by_chance(0.04), ignored=ignored)
@@ -156,7 +156,7 @@ class Builder:
         """Adds certificates from a subject on. Returns the subject that the chain ends with."""
         for left in range(length, 0, -1):
             subject = self.certificate(subject, left == 1)
-        # what names are left is mostly defined. Each definition may leave more of them, so the items have a bound
+        # (names that are left are mostly defined. Each definition may leave more of them, so the items have a bound)
         while subject.names and not self.by_chance(0.1) and len(self.items) < 24:
             subject = self.certificate(subject, True)
         return subject
@@ -180,7 +180,7 @@ class Builder:
         return entries
 
     def entry(self, subject: Subject, propagate: bool) -> Value:
-        """An entry for a subject, with a tag that mostly contains the request. `propagate`: it delegates, but for a mistake."""
+        """An entry for a subject, with a tag that mostly contains the request. It delegates if `propagate` is true and no step goes wrong."""
         fields = self.fields(self.tag(), propagate=propagate and not self.wrong(), ignored=("comment",))
         return (word("entry"), self.subject(subject), *fields)
 

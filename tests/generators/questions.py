@@ -20,8 +20,8 @@ LENGTHS = (9, 10, 63, 64, 65, 99, 100, 255, 256, 1000, 4096)
 
 
 def question(seed: str, number: int) -> Asked:
-    """The question of a seed and a number. Of each EVERY numbers the first are those of MAKERS, and the last those of long texts. Others are of some
-    kind by chance: the number beside a kind below is the share of all kinds up to it."""
+    """The question of a seed and a number. Of each EVERY numbers the first are those of MAKERS (seldom.py), and the last those of long texts. Others
+    are of some kind by chance: the number beside a kind below is the share of all kinds up to it."""
     rng = random.Random(f"{seed}/{number}")
     at = number % rare.EVERY
     if at < len(MAKERS):
@@ -45,7 +45,7 @@ def question(seed: str, number: int) -> Asked:
 
 
 def long_question(rng: random.Random, at: int) -> Question:
-    """A text at the limit of octets, for a command or as rows. The place `at` says which text and which command."""
+    """A text at the limit of octets, for a command or as rows. `at`, from 0 to below LONG_QUESTIONS, says which text and which command."""
     commands = (*COMMANDS, "rows")
     text = rare.LONG[at // len(commands)](rng)
     command = commands[at % len(commands)]
@@ -60,7 +60,7 @@ def limit_question(rng: random.Random) -> Question:
     if kind < 3:
         return Question("intersect", (rare.large_tags, rare.too_many_nodes, rare.deep_tags)[kind](rng))
     if kind < 6:
-        return Question(rng.choice(OF_CASES[:3]), rare.large_case(rng))
+        return Question(rng.choice(OF_CASES[:3]), rare.large_case(rng))  # (a command that takes no rows apart)
     text = rare.deep(rng)
     text = spellings.in_braces(text, rng) if rng.random() < 0.5 else text
     if rng.random() < 0.3:
