@@ -1,4 +1,5 @@
-"""What calls for C programs answer, beside the program's lines: statuses, misuse, strings of a value (section "The library for C programs")."""
+"""What calls for C programs answer, beside the program's lines: statuses, misuse, strings of a value (section "The library for C programs").
+An answer is a pair of a status and octets. `X.count_use(row)` counts one use of a row of the table X (coverage.py)."""
 from . import answers, canonical
 from .answers import COMMANDS, NO, REFUSED, YES, Answer
 from .coverage import Rows
@@ -33,7 +34,7 @@ def of_library(command: str, answered: Answer) -> Answer:
 
 
 def too_small() -> int:
-    """The status where the buffer is too small. Counts it."""
+    """The status TOO_SMALL, of a call whose buffer is too small. Counts its row of STATUSES."""
     STATUSES.count_use(NAMES[TOO_SMALL])
     return TOO_SMALL
 
@@ -66,7 +67,7 @@ def call(number: int | None, texts: tuple[Pointer, ...], buffer: Pointer) -> Ans
 
 
 def string_at(text: bytes, path: tuple[int, ...]) -> Answer:
-    """What `spki_string` answers: its status, and the octets of the string at the end of a path."""
+    """What `spki_string` answers: a status, and the octets of the string at the end of a path, none if the text is refused or has no string there."""
     try:
         value = canonical.read(text)
     except FormFault as fault:

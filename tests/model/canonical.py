@@ -1,4 +1,4 @@
-"""Reading canonical form (section "S-expressions in canonical form")."""
+"""Reading canonical form (section "S-expressions in canonical form"). `X.count_use(row)` counts one use of a row of the table X (coverage.py)."""
 import re
 
 from .coverage import Rows
@@ -58,9 +58,9 @@ def members_at(text: bytes, at: int, open_lists: int) -> tuple[Value, int]:
 
 
 def string_at(text: bytes, at: int, place: str) -> tuple[bytes, int]:
-    """The octets of the string that begins at an offset, and the offset behind it. Raises FormFault: Short, also at the end of the text, or Bad,
-    with the row `place` of PLACES if no string begins there."""
-    octet_at(text, at)
+    """The octets of the string that begins at an offset, and the offset behind it. Raises FormFault: Short, or Bad, for which `place` is the row of
+    PLACES if no string begins there."""
+    octet_at(text, at)  # (raises Short at the end of the text)
     length = LENGTH.match(text, at)
     if not length:
         raise bad(place, at)

@@ -2,7 +2,8 @@
 
 This is the meaning of an answer, apart from how one is computed: a tree over the entry and all certificates in their order, in which each inner node
 is made by one of the RFC's rules. A tag counts as the set of its requests, and a window as the set of its moments. So the request has to be in every
-tag of the tree, and the moment in every window. No tags are intersected, and there is no limit. The left fold of `reduction` has to say the same."""
+tag of the tree, and the moment in every window. No tags are intersected, and there is no limit. The left fold of `reduction` must say the same.
+`strict`: by the strict policy, under which a hash by SHA-1 names no key."""
 import itertools
 from collections.abc import Iterator
 from dataclasses import dataclass
@@ -29,13 +30,13 @@ def grants(leaves: list[Tuple], key: Key, request: Value, moment: bytes, strict:
 
 
 def grants_from_left(leaves: list[Tuple], key: Key, request: Value, moment: bytes, strict: bool) -> bool:
-    """Whether the tree that joins all leaves from the left grants a request of a key at a moment. It grants if any tree does, so
-    the answer is that of `grants`, and is quick for many leaves. The first leaf is the entry's."""
+    """Whether the tree that joins all leaves from the left grants a request of a key at a moment. It grants if any tree does, so the answer is that
+    of `grants`, and is quick for many leaves. The first leaf is the entry's."""
     if not all_contain(leaves, request, moment):
         return False
     root: Node | None = node_of(leaves[0])
     for leaf in leaves[1:]:
-        root = next(rules(root, node_of(leaf), strict), None) if root else None
+        root = next(joined_by_rule(root, node_of(leaf), strict), None) if root else None
     return root is not None and is_for(root, key, strict)
 
 
@@ -65,12 +66,12 @@ def roots(leaves: list[Node], strict: bool) -> set[Node]:
             end = begin + length
             halves = [(within[begin, middle], within[middle, end]) for middle in range(begin + 1, end)]
             pairs = itertools.chain.from_iterable(itertools.product(lefts, rights) for lefts, rights in halves)
-            within[begin, end] = {root for left, right in pairs for root in rules(left, right, strict)}
+            within[begin, end] = {root for left, right in pairs for root in joined_by_rule(left, right, strict)}
     return within[0, count]
 
 
-def rules(left: Node, right: Node, strict: bool) -> Iterator[Node]:
-    """Yields the node that the RFC's rules make of two nodes, or nothing if no rule fits."""
+def joined_by_rule(left: Node, right: Node, strict: bool) -> Iterator[Node]:
+    """Yields the node that the RFC's rules make of two nodes, or nothing if no rule fits: at most one does."""
     if right.issuer is None or not names(left.subject.principal, right.issuer, strict):
         return
     if right.name is not None:
