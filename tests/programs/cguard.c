@@ -50,8 +50,8 @@ static void delegation(const char *list, const char *sequence, const char *key)
     spki_guard_close(guard);
 }
 
-/* Numbers that a verifier might return in place of a truth value, such as -255 and 0x101, are no places. Nothing is marked by them. Marking needs no
- * memory: until_refusal = 1 would refuse the first request for it. */
+/* Numbers that a verifier might return in place of a truth value, such as -255 and 0x101, are no places: marking them is misuse. Marking needs no
+ * memory: until_refusal = 1 would refuse the first request for it. A place that is marked twice stays marked. */
 static void wrong_places(const char *list, const char *sequence, const char *key)
 {
     static const size_t none[] = {1, 2, 255, 0x100, 0x101, (size_t)-1, (size_t)-255, SIZE_MAX / 2 + 1};
@@ -164,7 +164,7 @@ static void marks_of_question(const char *list, const char *sequence, const char
     expect(spki_asked_mark(elsewhere, 0) == SPKI_DONE && decide(elsewhere, line, sizeof line, &needed) == SPKI_NO
            && !spki_asked_possible(elsewhere), "marks of another guard");
     memset(line, 'y', sizeof line);
-    const struct spki_decision small = spki_asked_decide(asked, line, 3, &needed);
+    const struct spki_decision small = spki_asked_decide(asked, line, 3, &needed); /* (of 12 octets, `yes entry 1` and a line feed) */
     expect(small.status == SPKI_TOO_SMALL && small.until == INT64_MIN && needed == 12 && !memcmp(line, "\0yyy", 4), "a small buffer");
     spki_asked_close(none);
     spki_asked_close(elsewhere);
@@ -292,7 +292,7 @@ static void refused_questions(void)
     spki_guard_close(guard);
 }
 
-/* More strings or octets than the usual limits are refused as `TooManyWords` and `TooLong`. */
+/* More than 64 strings or 65,536 octets, the usual limits, are refused as `TooManyWords` and `TooLong`. */
 static void usual_limits(void)
 {
     static char long_key[65536];

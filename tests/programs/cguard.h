@@ -1,4 +1,5 @@
-/* What cguard.c and misuse.c ask by: texts, guards and questions that are opened, and decisions that are compared. */
+/* What cguard.c and misuse.c ask by: texts, guards and questions that are opened, and decisions that are compared. `needed` is set to 12345 before a
+ * call, so that it is seen that the call sets it. */
 #ifndef CGUARD_H
 #define CGUARD_H
 

@@ -5,7 +5,8 @@
  *
  * A question is a line with the number of a command, 7 for spki_check_accepted, and the lengths of its two texts, then their octets. At most MOST are
  * read. An answer is a line with the status and the length, then its octets. Of each question the first REFUSALS requests for memory are refused in
- * turn. THREADS are at most 64. Ends with 99 and a line on standard error where a call does otherwise than `spki.h` says, or a text is cut off. */
+ * turn. THREADS are at most 64. Ends with 99 and a line on standard error where a call does otherwise than `spki.h` says, or a text is cut off.
+ * `needed` is set to 12345 before a call, so that it is seen that the call sets it. */
 #include "refusals.h"
 
 #include <pthread.h>
@@ -87,7 +88,7 @@ static void ask_with(const struct question *asked, size_t size)
     free(block);
 }
 
-/* Asks once for each of the first `most` requests for memory, with that one refused, until the call makes no more. */
+/* Asks once for each of the first `most` requests for memory, with that one refused, until the call makes no more. Each answer must say so. */
 static void ask_refused(const struct question *asked, size_t most)
 {
     static const char refused[] = "refused Memory\n";
@@ -149,7 +150,7 @@ static void ask_side_by_side(size_t count)
 }
 
 /* A command that does not exist must be misuse, and set the first octet of the buffer to 0. */
-static void unknown_command(unsigned command, unsigned char *buffer, size_t size)
+static void expect_unknown_command(unsigned command, unsigned char *buffer, size_t size)
 {
     size_t needed = 12345;
     memset(buffer, UNTOUCHED, size);
@@ -159,13 +160,13 @@ static void unknown_command(unsigned command, unsigned char *buffer, size_t size
         fail("misuse leaves a line, or writes to the buffer");
 }
 
-/* Calls that must be misuse. */
-static void misuse(void)
+/* Makes calls that must be misuse. */
+static void expect_misuse(void)
 {
     unsigned char buffer[64];
     size_t needed = 12345;
     for (unsigned command = 7; command; command *= 2) /* (until no bit is left) */
-        unknown_command(command, buffer, sizeof buffer);
+        expect_unknown_command(command, buffer, sizeof buffer);
     if (spki_answer(SPKI_CHECK, NULL, 1, buffer, sizeof buffer, &needed).status != SPKI_MISUSED || needed)
         fail("a null text with a length");
     if (spki_answer(SPKI_CHECK, "1:a", 3, NULL, 64, NULL).status != SPKI_MISUSED)
@@ -197,7 +198,7 @@ static int read_question(struct question *asked)
 
 int main(int count, char **words)
 {
-    misuse();
+    expect_misuse();
     questions = allocate(MOST * sizeof *questions);
     if (count != 3)
         fail("usage: clibrary THREADS REFUSALS");
