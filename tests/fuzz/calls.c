@@ -8,8 +8,7 @@
 
 #include <spki.h>
 
-/* Octets before and behind each buffer, and what each of them is; what each octet of a buffer is before a call; places of `marks`; octets of the
- * usual buffer; places of `seen`. */
+/* The octets on each side of a buffer, and what each is; what a buffer's are before a call; places of `marks`; a usual buffer; places of `seen`. */
 enum { CANARIES = 16, CANARY = 0xa5, UNTOUCHED = 0x5a, MOST_MARKS = 64, ROOM = 256, COUNTERS = 4096 };
 
 /* The answers that were seen, by their `count`. libFuzzer reads this section. */
@@ -368,8 +367,7 @@ static enum spki_status status_of_decision(const spki_asked *asked, void *buffer
     return decision.status;
 }
 
-/* Marks some signatures of an opened question and decides it. Compares the decision with what was possible, with that of the case of the same parts,
- * and with the explanation. */
+/* Marks some signatures of an opened question and decides it. Compares the decision with what was possible, the case and the explanation. */
 static void decide(struct input *in, const struct parts *parts, spki_asked *asked, enum spki_policy policy)
 {
     static struct text rows;
@@ -396,8 +394,7 @@ static void decide(struct input *in, const struct parts *parts, spki_asked *aske
     free(decision.octets);
 }
 
-/* Asks a guard the question of these parts, closes the guard, and then decides the question. The texts of the question are copies, which are
- * overwritten before it is decided. */
+/* Asks a guard the question of these parts, closes the guard, overwrites the texts of the question, which are copies, and then decides it. */
 static void ask(struct input *in, const struct parts *parts, spki_guard *guard, enum spki_policy policy)
 {
     static struct parts copy;

@@ -10,8 +10,8 @@
 #include <string.h>
 
 /* The most octets of a text, the room for strings of a request (whose usual limit is 64), the number of keys, the most lists in one another in a tag,
- * and a number over the most members of one such list. */
-enum { MOST_OCTETS = 32768, MOST_WORDS = 66, KEYS = 5, MOST_DEPTH = 3, MEMBERS = 4 };
+ * a number over the most members of one such list, and the algorithms of put_hash. */
+enum { MOST_OCTETS = 32768, MOST_WORDS = 66, KEYS = 5, MOST_DEPTH = 3, MEMBERS = 4, BY_SHA256 = 0, BY_SHA512, BY_SHA1 };
 
 /* What is left of the input. Behind its end all octets are 0. */
 struct input {
@@ -98,8 +98,6 @@ static void put_key(struct text *to, unsigned which)
     end_list(to);
     end_list(to);
 }
-
-enum { BY_SHA256, BY_SHA512, BY_SHA1 };
 
 /* Adds the hash of a text, `(hash ..)`, by an algorithm. */
 static void put_hash(struct text *to, const struct text *of, unsigned algorithm)
@@ -316,8 +314,7 @@ static void make_request(struct input *in, struct parts *parts)
         end_list(&parts->request);
 }
 
-/* Makes all parts of a question from the input. There are mostly up to 3 certificates, and at most 17, from key 0 on. The client's key is
- * mostly the subject of the last one. */
+/* Makes all parts of a question. There are mostly up to 3 certificates, at most 17, from key 0 on. The key that asks is mostly the last subject. */
 static void make_parts(struct input *in, struct parts *parts)
 {
     unsigned certificates = mostly(in, below(in, 4), 18), entries = 1 + below(in, 4), moment = mostly(in, 0, MOMENTS);

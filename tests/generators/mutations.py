@@ -220,8 +220,7 @@ def changed_octets(text: bytes, rng: random.Random) -> bytes:
 
 
 def changed_length(text: bytes, rng: random.Random) -> bytes:
-    """A text in which the length of a string is off by one, larger by 10 to 10^19, or has a leading zero or a space behind it. If the text has no
-    length, an octet is changed."""
+    """A text with a string's length off by one, larger by 10 to 10^19, or with a 0 before or a space behind. Without one: with an octet changed."""
     lengths = list(LENGTH.finditer(text))
     if not lengths:
         return changed_octets(text, rng)

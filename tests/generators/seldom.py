@@ -51,15 +51,14 @@ CALLS = [replace(it, texts=2 * it.texts) if it.number is None else it for it in 
 
 
 def variants_of_everything() -> Iterator[Value]:
-    """Variants of EVERYTHING, a case with each structure. Each has one change: a structure is replaced by one that NEARLY has for its head, or has a
-    faulty member of FIRST behind its head, or the entry's tag has too many nodes, or the list no entries."""
+    """Variants of EVERYTHING, each with one change: what NEARLY has for a head, a faulty member of FIRST behind it, a large tag, or no entries."""
     for path in places(EVERYTHING):
         structure = part(EVERYTHING, path)
         members = structure if isinstance(structure, tuple) else ()
         head = head_of(structure) or b""
         yield from (replaced(EVERYTHING, path, (other,)) for other in NEARLY.get(head, ()))
         yield from (replaced(EVERYTHING, path, ((*members[:1], member, *members[1:]),)) for member in FIRST.get(head, ()))
-    # the tag of the entry with too many nodes, and a list without entries
+    # (the path of the entry's tag, and that of the list)
     yield replaced(EVERYTHING, (1, 2, 3, 1), (many_strings(b"set", 1025),))
     yield replaced(EVERYTHING, (1,), ((Atom(b"acl"),),))
 

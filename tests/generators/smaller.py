@@ -19,8 +19,7 @@ LARGE = 20_000
 
 
 def smaller(question: Asked, shows: Callable[[Asked], bool], seconds: float = 20) -> Asked:
-    """The question made smaller: it is replaced by the first of its candidates for which `shows`, whether a question shows the difference, is true,
-    until there is none or the seconds are over."""
+    """The question made smaller: replaced by the first of its candidates that still `shows` the difference, until there is none or time is over."""
     ends = time.monotonic() + seconds
     is_smaller = True
     while is_smaller:

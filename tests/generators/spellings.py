@@ -126,8 +126,7 @@ def rejoined(pieces: list[bytes]) -> bytes:
 
 def escape(octet: int, rng: random.Random) -> bytes:
     """An octet in quotes as an escape, or raw unless it is a quote or a backslash."""
-    # (a short escape is drawn as often as the three by number)
-    ways = [b"\\%03o" % octet, b"\\x%02x" % octet, b"\\x%02X" % octet]
+    ways = [b"\\%03o" % octet, b"\\x%02x" % octet, b"\\x%02X" % octet]  # (a short escape is drawn as often as these three)
     if octet in b"\"'?\\":
         ways += 3 * [b"\\" + bytes([octet])]
     if octet in LETTERS:

@@ -91,8 +91,7 @@ def pair(rng: random.Random) -> tuple[Value, Value]:
         return first, first
     if rng.random() < 0.2:
         common = changed_request(common, rng)
-    second = tag_for(common, rng) if rng.random() < 0.85 else tag(rng)
-    return first, second
+    return first, (tag_for(common, rng) if rng.random() < 0.85 else tag(rng))
 
 
 def two_sets(rng: random.Random) -> tuple[Value, Value]:

@@ -178,12 +178,7 @@ def first_granted(case: Case, rows: list[Row], grants: Callable[[Entry, Steps], 
 
 def check(case: Case, rows: list[Row]) -> Answer:
     """The answer of `check`: the first entry that grants the request, or no. Raises Refused if tags are too large."""
-    def grants(entry: Entry, steps: Steps) -> bool:
-        """Whether the authorization that the entry becomes grants the request."""
-        _, is_granted = folded("check", case, entry, steps)
-        return is_granted
-
-    return first_granted(case, rows, grants)
+    return first_granted(case, rows, lambda entry, steps: folded("check", case, entry, steps)[1])  # ([1]: whether the request is granted)
 
 
 def decide(case: Case, rows: list[Row]) -> Answer:

@@ -1,8 +1,7 @@
-"""What calls for C programs answer, beside the program's lines: statuses, misuse, strings of a value (section "The library for C programs").
-An answer is a pair of a status and octets. `X.count_use(row)` counts one use of a row of the table X (coverage.py)."""
+"""What calls for C programs answer, beside the program's lines: statuses, misuse, strings of a value (section "The library for C programs")."""
 from . import answers, canonical
 from .answers import COMMANDS, NO, REFUSED, YES, Answer
-from .coverage import Rows
+from .coverage import Rows  # (`X.count_use(row)` counts one use of a row of the table X)
 from .values import Atom, FormFault
 
 # Statuses of the library that the program does not have.
@@ -46,8 +45,7 @@ def misused(row: str) -> Answer:
 
 
 def call(number: int | None, texts: tuple[Pointer, ...], buffer: Pointer) -> Answer:
-    """What `spki_answer` answers to a command's number and a text, or `spki_check_accepted` to two texts if the number is None. The texts
-    are empty, null or too long."""
+    """What `spki_answer` answers to a command's number and a text or, if it is None, `spki_check_accepted` to two texts: empty, null or too long."""
     if number is not None and number >= len(COMMANDS):
         return misused("no command has this number")
     for is_null, length in texts:

@@ -58,8 +58,7 @@ def members_at(text: bytes, at: int, open_lists: int) -> tuple[Value, int]:
 
 
 def string_at(text: bytes, at: int, place: str) -> tuple[bytes, int]:
-    """The octets of the string that begins at an offset, and the offset behind it. Raises FormFault: Short, or Bad, for which `place` is the row of
-    PLACES if no string begins there."""
+    """The octets of the string that begins at an offset, and the offset behind it. Raises FormFault. `place`: the row of PLACES if none begins."""
     octet_at(text, at)  # (raises Short at the end of the text)
     length = LENGTH.match(text, at)
     if not length:

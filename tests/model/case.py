@@ -1,11 +1,10 @@
-"""The case, and rows as a text of their own (section "The case"). A row of a case is a signature that is accepted.
-`X.count_use(row)` counts one use of a row of the table X of the document (coverage.py)."""
+"""The case, and rows as a text of their own (section "The case"). A row of a case is a signature that is accepted."""
 from collections.abc import Callable
 from dataclasses import dataclass
 from typing import Any
 
 from . import structures, tags
-from .coverage import Rows
+from .coverage import Rows  # (`X.count_use(row)` counts one use of a row of the table X)
 from .structures import Entry, Item, ItemFault, Key, Members, StructureFault, read_date, read_hash, read_key
 from .tags import TagFault
 from .values import Value, canonical, head_of, is_plain

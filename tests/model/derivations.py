@@ -1,9 +1,8 @@
 """Whether some derivation grants a request, by trying every bracketing (RFC 2693, sections 6.3 and 6.4).
 
-This is the meaning of an answer, apart from how one is computed: a tree over the entry and all certificates in their order, in which each inner node
-is made by one of the RFC's rules. A tag counts as the set of its requests, and a window as the set of its moments. So the request has to be in every
-tag of the tree, and the moment in every window. No tags are intersected, and there is no limit. The left fold of `reduction` must say the same.
-`strict`: by the strict policy, under which a hash by SHA-1 names no key."""
+This is the meaning of an answer, apart from how one is computed: a tree over the entry and all certificates in order, whose inner nodes are made by
+the RFC's rules. A tag counts as the set of its requests, and a window as the set of its moments. So the request must be in every tag, and the moment
+in every window. No tags are intersected, and there is no limit. The left fold of `reduction` must say the same. `strict`: SHA-1 names no key."""
 import itertools
 from collections.abc import Iterator
 from dataclasses import dataclass

@@ -1,12 +1,11 @@
-"""Which certificates of a sequence pass the tests of evidence, and their tuples (section "Evidence and decision").
-Items are numbered from 1. `strict`: a hash by SHA-1 names no key. `X.count_use(row)` counts one use of a row of the table X (coverage.py)."""
+"""Which certificates of a sequence pass the tests of evidence, and their tuples (section "Evidence and decision"). `strict`: SHA-1 names no key."""
 import hashlib
 from collections.abc import Iterable, Iterator
 from dataclasses import dataclass
 from typing import Union
 
 from .case import Row
-from .coverage import Rows
+from .coverage import Rows  # (`X.count_use(row)` counts one use of a row of the table X)
 from .structures import Certificate, Hash, Item, Key, Principal, Signature, Subject, Window
 from .tags import Tag
 

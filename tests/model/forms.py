@@ -20,8 +20,7 @@ def read(text: bytes) -> Value:
 
 
 def read_within_limit(text: bytes) -> Value:
-    """The value of a text, for commands that work on its canonical form. Raises FormFault: the first fault, or TooLong if the canonical form has
-    more octets than a text may have."""
+    """The value of a text whose canonical form is needed. Raises FormFault: the first fault, or TooLong if that form is over a text's limit."""
     value = read(text)
     # (a canonical form is less than four times as long as any other text of the value, so that of a short text is not measured)
     if len(text) > LONGEST // 4 and len(canonical(value)) > LONGEST:

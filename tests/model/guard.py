@@ -1,5 +1,4 @@
-"""A guard: an access list that is read once, and questions whose parts are texts of their own (section "Questions to a guard"). A row of a case is a
-signature that is accepted. `X.count_use(row)` counts one use of a row of the table X (coverage.py)."""
+"""A guard: an access list that is read once, and questions whose parts are texts of their own (section "Questions to a guard")."""
 import calendar
 import datetime
 import hashlib
@@ -10,8 +9,8 @@ from typing import Any
 from . import answers, evidence, forms, intersection, structures, tags
 from .answers import Answer, Refused, refusal, refused
 from .calls import GRANTED, MISUSED, of_library, too_small
-from .case import Case, Row
-from .coverage import Rows
+from .case import Case, Row  # (a row is a signature that is accepted)
+from .coverage import Rows  # (`X.count_use(row)` counts one use of a row of the table X)
 from .structures import Certificate, Entry, ItemFault, Key, Signature, StructureFault
 from .tags import TagFault
 from .values import Atom, FormFault, Value, canonical
@@ -111,8 +110,7 @@ def open_guard(text: bytes, strict: bool, limits: Limits) -> Guard:
 
 
 def case_of(guard: Guard, question: Parts, rows: list[Row]) -> Case:
-    """The case of a question, with these rows. Raises Refused for too many octets, else for the first bad part, else for too many certificates or
-    strings."""
+    """The case of a question, with these rows. Raises Refused for its octets, else for the first bad part, else for its certificates or strings."""
     if octets_of(question) > guard.limits.octets:
         REFUSED.count_use("question TooLong")
         raise Refused("question TooLong")
@@ -194,8 +192,7 @@ def octets_of(question: Parts) -> int:
 
 
 def signatures_to_verify(case: Case) -> list[Signed]:
-    """What a verifier is asked about: the key, the message and the signature value of each certificate, up to the first certificate that fails
-    one of the first three tests of evidence."""
+    """The key, the message and the signature value of each certificate, up to the first that fails one of the first three tests of evidence."""
     listed: list[Signed] = []
     for number, certificate, signature in evidence.signed_certificates(case.items):
         key = issuer_key_if_fit(number, certificate, signature, case)
@@ -267,8 +264,7 @@ def status_too_small(row: str) -> int:
 
 
 def misuse_of_opening(policy: int, limits: Limits, oddity: str) -> str | None:
-    """The row of OPENED that says what is misuse when a guard is opened, None if nothing is. For misuse that neither the policy nor the limits show,
-    `oddity` is that row."""
+    """The row of OPENED that says what is misuse when a guard is opened: of the policy, the limits, or `oddity` if it is one. None if nothing is."""
     if policy not in POLICIES:
         return OPENED[0]
     above = [row for row, limit in zip(OPENED[1:4], ("octets", "nodes", "work"), strict=True) if getattr(limits, limit) > getattr(HIGHEST, limit)]

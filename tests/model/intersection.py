@@ -1,10 +1,9 @@
-"""The intersection of two tags by its rules (section "The intersection of two tags"; RFC 2693, section 6.3.1).
-`X.count_use(row)` counts one use of a row of the table X (coverage.py)."""
+"""The intersection of two tags by its rules (section "The intersection of two tags"; RFC 2693, section 6.3.1)."""
 import math
 from collections.abc import Iterator
 from contextlib import contextmanager
 
-from .coverage import Rows
+from .coverage import Rows  # (`X.count_use(row)` counts one use of a row of the table X)
 from .tags import NOTHING, AnyOf, Limit, Plain, Prefix, Range, Star, Tag, Text, has_set, in_range, nodes
 
 MOST_PRODUCT = 1_000_000
@@ -53,8 +52,7 @@ def limited(most: int, work: int | None = None, small: int = 0) -> Iterator[None
 
 @contextmanager
 def counting_work(of_entry: Tag, others: list[Tag | None]) -> Iterator[None]:
-    """A context in which an entry's tag and those of certificates (None: a name's definition) are folded. The work of a small chain is not counted:
-    within the context it has no limit."""
+    """A context in which an entry's tag and those of certificates (None: a name's definition) are folded. A small chain has no limit of work."""
     global most_work
     before = most_work
     if is_small(of_entry, others):
@@ -66,9 +64,8 @@ def counting_work(of_entry: Tag, others: list[Tag | None]) -> Iterator[None]:
 
 
 def is_small(of_entry: Tag, others: list[Tag | None]) -> bool:
-    """Whether the numbers of nodes alone show that no intersection in a chain is too large, so that its work need not be counted. The product of all
-    numbers is at most `uncounted`. Or no tag has a set, and the sum of all, times the largest of a certificate, is at most `uncounted`. A name's
-    definition counts as one node."""
+    """Whether the numbers of nodes alone show that no intersection in a chain is too large, so that its work need not be counted. Their product is at
+    most `uncounted`. Or no tag has a set, and their sum, times the largest of a certificate, is. A name's definition counts as one node."""
     size, sizes = nodes(of_entry), [1 if tag is None else nodes(tag) for tag in others]
     if size * math.prod(sizes) <= uncounted:
         return True

@@ -1,8 +1,7 @@
 """What an entry and the certificates become, joined from the left (section "Evidence and decision"; RFC 2693, 6.3 and 6.4).
 
-What a join costs is the row "work" of section "Questions to a guard". `strict`: a hash by SHA-1 names no key.
-`X.count_use(row)` counts one use of a row of the table X (coverage.py)."""
-from .coverage import Rows
+What a join costs is the row "work" of section "Questions to a guard". `strict`: a hash by SHA-1 names no key."""
+from .coverage import Rows  # (`X.count_use(row)` counts one use of a row of the table X)
 from .evidence import Authorization, Definition, Tuple, names
 from .intersection import counting_work, intersection, spend_work
 from .structures import Entry, Subject, Window

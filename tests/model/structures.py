@@ -1,7 +1,6 @@
 """Keys, hashes, names, dates, entries, certificates, sequences (section "Keys, hashes, dates, entries, certificates").
 
-Each reader takes a value, and returns the structure that it is or raises StructureFault, the first fault in reading order.
-`X.count_use(row)` counts one use of a row of the table X (coverage.py)."""
+Each reader takes a value, and returns the structure that it is or raises StructureFault, the first fault in reading order."""
 import hashlib
 import re
 from collections.abc import Callable, Iterable
@@ -9,7 +8,7 @@ from dataclasses import dataclass, field
 from typing import Any, Union
 
 from . import tags
-from .coverage import Rows
+from .coverage import Rows  # (`X.count_use(row)` counts one use of a row of the table X)
 from .tags import DATE, Tag, TagFault
 from .values import Atom, Value, canonical, head_of, is_plain
 

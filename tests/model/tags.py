@@ -1,10 +1,9 @@
-"""Tags and requests: what they are read as, and which requests a tag contains (section "Tags"; RFC 2693, section 6.3.1).
-`X.count_use(row)` counts one use of a row of the table X (coverage.py)."""
+"""Tags and requests: what they are read as, and which requests a tag contains (section "Tags"; RFC 2693, section 6.3.1)."""
 import re
 from dataclasses import dataclass
 from typing import Union
 
-from .coverage import Rows
+from .coverage import Rows  # (`X.count_use(row)` counts one use of a row of the table X)
 from .values import Atom, Value, is_plain
 
 MOST_NODES = 1024
@@ -198,8 +197,7 @@ def normal_list(members: tuple[Tag, ...]) -> Tag:
 
 
 def normal_set(members: tuple[Tag, ...]) -> Tag:
-    """The normal form of a set whose members are in normal form: a set inside gives its members, `(*)` among them makes it `(*)`, and a set of one
-    member is that member."""
+    """The normal form of a set whose members have theirs: a set inside gives its members, one with `(*)` is `(*)`, one of a single member is that."""
     flat: list[Tag] = []
     for member in members:
         if isinstance(member, AnyOf):

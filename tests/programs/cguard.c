@@ -235,7 +235,7 @@ static void refused_lists(void)
     spki_guard *guard = (spki_guard *)&until_refusal; /* (not null, so that it is seen that a call sets null) */
     struct spki_limits high = SPKI_HIGHEST_LIMITS, unsized = SPKI_USUAL_LIMITS;
     unsigned char buffer[64];
-    size_t needed = 12345;
+    size_t needed = UNSET;
     expect(spki_guard_open("(acl x)", 7, SPKI_ALLOW_SHA1, NULL, &guard, buffer, sizeof buffer, &needed) == SPKI_REFUSED && !guard
            && is_text(buffer, needed, "refused acl 1 Shape\n"), "a list that is none");
     expect(spki_guard_open("(acl x)", 7, SPKI_ALLOW_SHA1, NULL, &guard, buffer, 3, &needed) == SPKI_TOO_SMALL && needed == 20, "a small buffer");
@@ -318,7 +318,7 @@ static void octets_of_strings(void)
     static const char good[] = "(10:public-key(16:rsa-pkcs1-sha256(1:e3:abc)(1:n[1:b]2:ok)))";
     const size_t modulus[] = {1, 2, 1}, past[] = {1, 3}, through[] = {0, 0}, longer[] = {1, 2, 1, 0};
     const void *octets = good;
-    size_t length = 12345;
+    size_t length = UNSET;
     expect(spki_string(good, sizeof good - 1, modulus, 3, &octets, &length) == SPKI_DONE && is_text(octets, length, "ok")
            && (const char *)octets > good && (const char *)octets < good + sizeof good, "another modulus");
     expect(spki_string(good, sizeof good - 1, modulus, 2, &octets, &length) == SPKI_NONE && !octets && !length, "a list is no string");

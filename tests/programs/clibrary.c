@@ -5,8 +5,7 @@
  *
  * A question is a line with the number of a command, 7 for spki_check_accepted, and the lengths of its two texts, then their octets. At most MOST are
  * read. An answer is a line with the status and the length, then its octets. Of each question the first REFUSALS requests for memory are refused in
- * turn. THREADS are at most 64. Ends with 99 and a line on standard error where a call does otherwise than `spki.h` says, or a text is cut off.
- * `needed` is set to 12345 before a call, so that it is seen that the call sets it. */
+ * turn. THREADS are at most 64. Ends with 99 and a line on standard error where a call does otherwise than `spki.h` says, or a text is cut off. */
 #include "refusals.h"
 
 #include <pthread.h>
@@ -15,8 +14,8 @@
 #include <string.h>
 
 /* The most questions; the command of spki_check_accepted; how many octets stand before and behind each buffer, and what each is; what each octet of a
- * buffer is before a call; the octets of a thread's stack; the exit status where a call does otherwise. */
-enum { MOST = 10000, CHECK_ACCEPTED = 7, CANARIES = 16, CANARY = 0xa5, UNTOUCHED = 0x5a, STACK = 256 * 1024, BROKEN = 99 };
+ * buffer is before a call, and `needed`; the octets of a thread's stack; the exit status where a call does otherwise. */
+enum { MOST = 10000, CHECK_ACCEPTED = 7, CANARIES = 16, CANARY = 0xa5, UNTOUCHED = 0x5a, UNSET = 12345, STACK = 256 * 1024, BROKEN = 99 };
 
 /* A question: its command and its two texts, and the status and the `length` octets of its answer. */
 struct question {
@@ -66,7 +65,7 @@ static int are_all(const unsigned char *octets, size_t length, unsigned char wan
 /* Asks with a buffer of this size between canaries. The known answer must be written if it fits. If not, only a first octet 0 must be written. */
 static void ask_with(const struct question *asked, size_t size)
 {
-    size_t needed = 12345, written = asked->length <= size ? asked->length : 0;
+    size_t needed = UNSET, written = asked->length <= size ? asked->length : 0;
     unsigned char *block = allocate(size + 2 * CANARIES), *buffer = block + CANARIES;
     memset(block, CANARY, size + 2 * CANARIES);
     memset(buffer, UNTOUCHED, size);
@@ -152,7 +151,7 @@ static void ask_side_by_side(size_t count)
 /* A command that does not exist must be misuse, and set the first octet of the buffer to 0. */
 static void expect_unknown_command(unsigned command, unsigned char *buffer, size_t size)
 {
-    size_t needed = 12345;
+    size_t needed = UNSET;
     memset(buffer, UNTOUCHED, size);
     if (spki_answer((enum spki_command)command, "1:a", 3, buffer, size, &needed).status != SPKI_MISUSED || needed)
         fail("an unknown command is answered");
@@ -164,7 +163,7 @@ static void expect_unknown_command(unsigned command, unsigned char *buffer, size
 static void expect_misuse(void)
 {
     unsigned char buffer[64];
-    size_t needed = 12345;
+    size_t needed = UNSET;
     for (unsigned command = 7; command; command *= 2) /* (until no bit is left) */
         expect_unknown_command(command, buffer, sizeof buffer);
     if (spki_answer(SPKI_CHECK, NULL, 1, buffer, sizeof buffer, &needed).status != SPKI_MISUSED || needed)

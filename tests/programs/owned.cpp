@@ -76,8 +76,7 @@ static int opened_question()
     const spki::signature listed = moved.signature(0);
     CHECK(listed.key == "(10:public-key(4:test1:a))" && listed.value == "3:sig" && listed.octets == "sig");
     CHECK(!moved.decide() && moved.explain() == "item 1 NotAccepted\n");
-    // (numbers that a verifier might return in place of a truth value are no places)
-    for (std::size_t place : {std::size_t(1), std::size_t(0x101), std::size_t(-1), std::size_t(-255)})
+    for (std::size_t place : {std::size_t(1), std::size_t(0x101), std::size_t(-1), std::size_t(-255)}) // (what verifiers might return)
         CHECK(is_misuse([&] { moved.mark(place); }) && !moved.decide());
     moved.mark(0);
     CHECK(moved.decide() && moved.decide() && moved.explain() == "entry 1 grants\n");

@@ -109,8 +109,7 @@ class Attackers:
         return signed_sequence(certificate, signer, None)
 
     def make_tls_certificates(self) -> None:
-        """Writes certificates for TLS into the site's keys/: one by Eve's key in Ann's name, Eve's and Ann's in one file, one with a P-521 key, and
-        one for Ben's key that has ended."""
+        """Writes certificates for TLS into keys/: of Eve's key in Ann's name, Eve's and Ann's, of a P-521 key, and of Ben's key, which has ended."""
         site, make = self.site, ("openssl", "req", "-x509", "-new")
         site.sh(*make, "-key", "keys/eve", "-subj", "/CN=ann", "-days", "9", "-out", "keys/named-ann.crt")
         site.write("keys/both.crt", site.text("keys/eve.crt") + site.text("keys/ann.crt"))

@@ -116,9 +116,8 @@ def failing_ends() -> Iterator[CallRow]:
     for room in range(len(text) + 1):
         wanted = b"3, %d 1 false %d, 0 0 false;" % (room + 1, len(text) - room)
         yield CallRow(f"calls/ends:read {room}", "run", (b"check", text, b"1", number(room), b"fails"), wanted)
-    unlimited_reader = (b"", b"", b"")
     for room in range(len(LINE)):
         for past in (b"fails", b""):
             wanted = b"3, 2 0 true 0, %d 1 false;%s" % (room + 1, LINE[:room])
-            texts = (b"check", text, *unlimited_reader, b"1", number(room), past)
+            texts = (b"check", text, b"", b"", b"", b"1", number(room), past)  # (no limit of the reader)
             yield CallRow(f"calls/ends:write {room} {past.decode() or 'no more'}", "run", texts, wanted)

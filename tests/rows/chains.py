@@ -150,8 +150,8 @@ def long_lists():
         yield f"nine entries {why}", case(other * 9, rows, items), NO
     yield "nine entries, and another key asks", case(entry("a") * 9, rows, items, asks=key("x")), NO
     yield "nine entries, and a certificate twice", case(entry("a") * 9, rows, items + signed(cert(*CHAIN[2]), key("c"))), NO
-    # (1,000 nodes of an entry times 1,001 of a certificate are more than the limit of 1,000,000)
     large, small = (entry("a", f"(propagate) (tag {tag}) {over}") for tag in (f"(* set {'n ' * 999})", "n"))
+    # (the large tags have 1,000 and 1,001 nodes, whose product is over the limit of 1,000,000)
     granted, shown = entry("a", "(propagate) (tag n)"), rows_and_items((cert(key("a"), key("d"), f"(tag (* set {'n ' * 1000}))"), key("a")))
     yield "eight entries whose window is over, and one too large", case(small * 8 + large, *shown, request="n"), refused("TooLarge")
     yield "eight entries whose window is over, and one that grants, before one too large", \

@@ -20,7 +20,7 @@ NOW = b'"2024-01-01_00:00:00"'
 C1 = cert(KA, KB, "(tag (*))")
 # Entries for KA: one that delegates and contains each request, and one that does not delegate and contains some.
 ALL, HOST = entry("a"), entry("a", "(tag (ftp host))")
-NO_ROWS = b"(8:accepted)"
+NO_ROWS, NO_LIMITS = b"(8:accepted)", (b"", b"")
 ENTRY = re.compile(rb"entry \d+ ")
 SHAPES = {"Canonical": lambda text: text, "Advanced": lambda text: printed(forms.read(text)), "Transport": braced}
 
@@ -40,8 +40,7 @@ def signed_wrongly(certificate: str) -> str:
 
 
 def case_by_hash(behind: str, is_changed: bool = False) -> bytes:
-    """A case with a certificate that names its issuer KA by a hash, and the items `behind` it: the text of KA, to show the key, or nothing. If
-    `is_changed`, the signature has a wrong digest."""
+    """A case with a certificate whose issuer is the hash of KA, and the text `behind` it: KA or nothing. `is_changed`: the signed digest is wrong."""
     hashed = cert(chains.digest(KA), KB, "(tag (*))")
     return case(ALL, row(hashed, KA), (signed_wrongly(hashed) if is_changed else signed(hashed, KA)) + behind)
 
@@ -99,8 +98,7 @@ def of_verifiers() -> Iterator[CallRow]:
     ]:
         parts = parts_of(text)
         for call in ("PreparedQuestion::decide", "PreparedQuestion::grant"):
-            no_limits = b"", b""
-            yield CallRow(f"calls/cases:{name}: {call}", call, (parts[0], parts[5], *no_limits, *parts[1:5], verifier), wanted)
+            yield CallRow(f"calls/cases:{name}: {call}", call, (parts[0], parts[5], *NO_LIMITS, *parts[1:5], verifier), wanted)
     for call in ("decide", "explain", "reduce_case"):
         yield CallRow(f"calls/cases:broken: {call}", call, (none, b"broken"), b"refused Memory")
     yield CallRow("calls/cases:first-run", "Case::read", (first_run(),), b"1 0")
@@ -149,8 +147,7 @@ def parts_of(text: bytes) -> list[bytes]:
 
 
 def answer_of(wish: str, parts: list[bytes], rows: bytes) -> tuple[guard.Answer, list[guard.Signed]]:
-    """What the model answers to the parts of a case (`parts_of`) by the text of its rows, and the signatures that it lists. `wish` is `decide`,
-    `explain` or `reduce`."""
+    """What the model answers to the parts of a case (`parts_of`) and its rows, and the signatures of it. `wish`: `decide`, `explain` or `reduce`."""
     question, policy = guard.Parts(*parts[1:5]), guard.OPEN if parts[5] == b"open" else guard.STRICT
     return guard.answer(wish, parts[0], question, cases.read_rows(forms.read(rows)), policy, guard.USUAL, "")
 
@@ -209,8 +206,7 @@ def of_questions() -> Iterator[CallRow]:
 def of_question(place: str, wish: str, parts: list[bytes], rows: bytes, answer: bytes, listed: list[guard.Signed]) -> Iterator[CallRow]:
     """The rows of one question, by each call that can answer it. `parts` are as `parts_of` returns them, `rows` is the text of the accepted
     signatures, `answer` are the lines that the model answers, and `listed` the signatures of the question, which marks accept or not."""
-    opening = parts[0], parts[5], b"", b""  # (the list, the policy, and no limits)
-    question, marks, result = tuple(parts[1:5]), marks_of(rows, listed), in_debug(wish, answer)
+    opening, question, marks, result = (parts[0], parts[5], *NO_LIMITS), tuple(parts[1:5]), marks_of(rows, listed), in_debug(wish, answer)
     yield CallRow(f"{place} {wish}", f"PreparedQuestion::{wish}", (*opening, *question, rows), result)
     yield CallRow(f"{place} {wish}_by", f"PreparedQuestion::{wish}_by", (*opening, *question, marks), result)
     if wish == "reduce":
@@ -223,8 +219,7 @@ def of_question(place: str, wish: str, parts: list[bytes], rows: bytes, answer: 
         for call in ("PreparedQuestion::is_possible", "OwnedQuestion::is_possible"):
             for some_marks in sorted({marks, b""}):
                 yield CallRow(f"{place} {call}, {len(some_marks)} marks", call, (*opening, *question, some_marks), b"yes" if is_possible else b"no")
-        one_too_many = marks + b"1"
-        yield CallRow(f"{place} other marks", "answer_opened", (*opening, b"decide", *question, one_too_many), b"other marks")
+        yield CallRow(f"{place} other marks", "answer_opened", (*opening, b"decide", *question, marks + b"1"), b"other marks")  # (one too many)
         yield CallRow(f"{place} opened", "OwnedQuestion::decide_by", (*opening, *question, marks), result)
         texts = b"".join(text + b"\n" for signed_texts in listed for text in signed_texts)
         yield CallRow(f"{place} signed", "OwnedQuestion::signed", (*opening, *question), texts)

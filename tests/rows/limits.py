@@ -102,10 +102,9 @@ def nodes():
 def products():
     """Yields (name, command, text, answer): products of two tags' nodes around 1,000,000."""
     def sets(one, other):
-        """The text for the intersection of two sets, whose members are these texts. A set is one node more than its members."""
+        """The text for the intersection of two sets of these members. A set is a node more than its members, and keeps equal ones."""
         return f"(intersect (* set {one}) (* set {other}))"
 
-    # (a set of equal strings keeps each pair of them)
     yield "1,024 nodes and 976", "intersect", sets(strings(1023), strings(975)), (0, f"(* set {strings(1023 * 975)})\n")
     yield "1,024 nodes and 977", "intersect", sets(strings(1023), strings(976)), refused("TooLarge")
     yield "1,000 nodes twice", "intersect", sets(numbered(999), numbered(999)), (0, f"(* set {numbered(999)})\n")
@@ -120,9 +119,8 @@ def products():
 
 def work():
     """Yields (name, command, text, answer): entries and certificates whose work is 2,300,000,000, the limit, and more. The tags of 23 entries have
-    1,000 nodes each. By the first certificate, whose tag has 4 nodes and 99,904 octets, each node costs 32 + 15 * 4 + 4 + 99,904 = 100,000. Then
-    nothing is left of the tags. The second certificate's tag has 336 nodes, so that the product of all, 1,000 * 4 * 336, is over 1,000,000: the work
-    of smaller ones is not counted."""
+    1,000 nodes each. By the first certificate, whose tag has 4 nodes and 99,904 octets, each costs 32 + 15 * 4 + 4 + 99,904 = 100,000. Then nothing
+    is left of the tags. The second certificate's tag has 336 nodes: the product 1,000 * 4 * 336 is over 1,000,000, below which no work is counted."""
     def chain_of(more, *tags):
         """The rows and the items of the first certificate, whose tag has so many octets more, and of a further one for each of these tags."""
         first = cert(key("a"), key("b"), f"(propagate) (tag (* set r {'x' * 49_951} {'y' * (49_952 + more)}))")

@@ -48,8 +48,7 @@ def of_refused_parts() -> Iterator[CallRow]:
 
 def of_refused_part(place: str, texts: list[bytes], part: str, item: int | None, kind: str) -> Iterator[CallRow]:
     """The rows in which a guard refuses the texts of a list, sequence, key, request and moment, for the fault of one of them: `part`, a key
-    of PART. `item`, the place of its member (None for a request), and `kind` are the fault. A library names it as a value of Rattle and by a message,
-    a line in words."""
+    of PART. `item`, the place of its member (None for a request), and `kind` are the fault, which answers name in Rattle, lines in words."""
     fault, message = f"CertFault {{ item: {item}, kind: {kind} }}", f"item {item}: {TEXT_OF[kind]}"
     guard = texts[0], b"open", b"", b""
     words = kind.replace("(", " ").replace(")", "")  # (a fault `Tag(EmptyList)` is `Tag EmptyList` in a line)
@@ -112,14 +111,12 @@ NO_DATES = (-1, 253_402_300_800, -62_167_219_200, -62_167_219_201, 2**63 - 1, -2
 
 
 def of_seconds() -> Iterator[CallRow]:
-    """Seconds are the moment of their date: an entry that is valid only at that date grants, and one of another date, in 1971, does not. Seconds are
-    refused if they are negative, or after the year 9999."""
+    """Seconds are the moment of their date: an entry of that date grants, and one of another date not. Those below 0 and after 9999 are refused."""
     for seconds, date in DATES.items():
         for limit, answer in ((date, b"Yes(1)"), (b"1971-01-01_00:00:00", b"No")):
             listed = list_of(b"(1:*)", group(string("not-before"), string(limit)) + group(string("not-after"), string(limit)))
             yield row_by_strings(f"seconds {seconds} {answer.decode()}", listed, (b"a",), answer, seconds)
-            no_marks = b""
-            arguments = (listed, b"open", b"", b"", NO_CERTIFICATES, A, b"1:a", string(date), no_marks)
+            arguments = (listed, b"open", b"", b"", NO_CERTIFICATES, A, b"1:a", string(date), b"")  # (without marks)
             yield CallRow(f"calls/words:text {seconds} {answer.decode()}", "PreparedQuestion::decide_by", arguments, answer)
     for seconds in NO_DATES:
         yield row_by_strings(f"no date {seconds}", list_of(b"(1:*)"), (b"a",), b"Ask(Moment(BadDate)): moment: not a date", seconds)
@@ -156,8 +153,7 @@ def of_counts() -> Iterator[CallRow]:
     """By the default limits a question may have 16 certificates and 64 strings, also in lists inside the request. Without limits it may have more."""
     listed, item = f"(acl (entry {KA} (propagate) (tag (*))))".encode(), signed(cert(KA, KB, "(tag (*))"), KA)
     for count, strings, refusal in ((16, 64, None), (17, 64, "Certificates"), (17, 65, "Certificates"), (16, 65, "Words")):
-        # (the list in the request has two of its strings)
-        question = (f"(sequence {item * count})".encode(), KB.encode(), f"({'a ' * (strings - 2)}(a b))".encode(), NOW)
+        question = (f"(sequence {item * count})".encode(), KB.encode(), f"({'a ' * (strings - 2)}(a b))".encode(), NOW)  # (`(a b)` has 2 of them)
         # (no: behind the first certificate the chain needs one of B, and all are issued by A)
         by_default = b"Refused refused question TooMany%s\n" % refusal.encode() if refusal else b"No no\n"
         for limits, answer in ((b"usual", by_default), (b"", b"No no\n")):
@@ -173,10 +169,9 @@ def sets_case() -> bytes:
 
 def of_strings_in_chains() -> Iterator[CallRow]:
     """A chain that as a case is refused as TooLarge with 102 strings or more in its last tag: the first two leave 99 * 99 strings, or 9,802
-    nodes, which times 102 are below 1,000,000, and times 103 are not. A guard decides it, since its decision intersects nothing. A tag has at most
-    1,024 nodes."""
+    nodes, which times 102 are below 1,000,000, and times 103 are not. A guard decides it, since its decision intersects nothing."""
     tag = f"(tag (* set{' a' * 99}))"
-    for third in (101, 102, 1_023):
+    for third in (101, 102, 1_023):  # (1,023 strings are the most in a tag)
         first, second = cert(KA, KB, f"(propagate) {tag}"), cert(KB, KC, f"(tag (* set{' a' * third}))")
         sequence = f"(sequence {signed(first, KA)} {signed(second, KB)})".encode()
         for request, answer in ((b"a", b"Yes(1)"), (b"b", b"No")):
@@ -189,8 +184,7 @@ FIRST = {b"a": (6, 6), b"b": (3, 4), b"c": (4, 4), b"d": (2, 2), b"e": (2, 2), b
 
 
 def of_several_entries() -> Iterator[CallRow]:
-    """Questions to a list of entries for KA by its hashes, for KA itself, and for others, with different sets as tags. The first entry that grants is
-    named: under the strict policy that is none for a hash by SHA-1."""
+    """Questions to a list of entries for KA by its hashes, for KA and for others. The first that grants is named. Strictly, SHA-1 names no key."""
     def hashed(alg: str, tag: str) -> str:
         """An entry for the hash of KA by an algorithm, with a tag."""
         return f"(entry (hash {alg} #{hashlib.new(alg, A).hexdigest()}#) (tag {tag}))"

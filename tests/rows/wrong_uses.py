@@ -1,6 +1,5 @@
 """The table of wrong uses: what happens where a call of the bindings is held wrong. Each row is the body of a function in a file of `wrong_uses/`,
-one for each language, behind the code that all its rows share. A row begins with the line `--- OUTCOME: NAME` or, with a pattern for what the
-compiler prints, `--- OUTCOME, PATTERN: NAME`. The outcome is that the code does not compile, is refused, is denied, or is granted."""
+one for each language, behind the code that all its rows share. A row begins with `--- OUTCOME: NAME` or `--- OUTCOME, PATTERN OF COMPILER: NAME`."""
 import os
 import re
 from collections.abc import Iterator
