@@ -118,7 +118,7 @@ class Builder:
         self.hashed += [issuer] if principal != issuer else []
         # (a subject that is a name needs a certificate that defines it, a key one that passes a right on; by chance it is the other way)
         defines = bool(subject.names) != self.wrong()
-        following = self.next_subject(0.15 if defines else 0.35)
+        following = self.next_subject(name_chance=0.15 if defines else 0.35)
         ignored = ("display", "issuer-info", "subject-info", "comment")
         version: list[Value] = [(word("version"), Atom(b"0"))] if self.by_chance(0.08) else []
         subject_field: Value = (word("subject"), self.subject(following, issuer))
@@ -141,7 +141,7 @@ class Builder:
         octets = canonical(certificate)
         algorithm = self.rng.choice((b"sha1", b"sha256", b"sha512"))
         digest = DIGESTS[algorithm](octets if not self.by_chance(0.015) else b"").digest()
-        signer = self.principal(key if not self.by_chance(0.015) else self.rng.choice(self.keys), 0.15)
+        signer = self.principal(key if not self.by_chance(0.015) else self.rng.choice(self.keys), by_hash=0.15)
         values: tuple[Value, ...] = (Atom(b"sig"), (Atom(b"rsa"), Atom(b"\x01\xff")), Atom(b"sig", b"h"), ())
         value = self.rng.choice(values)
         self.items.append(certificate)
@@ -155,10 +155,10 @@ class Builder:
     def chain(self, subject: Subject, length: int) -> Subject:
         """Adds certificates from a subject on. Returns the subject that the chain ends with."""
         for left in range(length, 0, -1):
-            subject = self.certificate(subject, left == 1)
+            subject = self.certificate(subject, is_last=left == 1)
         # (names that are left are mostly defined. Each definition may leave more of them, so the items have a bound)
         while subject.names and not self.by_chance(0.1) and len(self.items) < 24:
-            subject = self.certificate(subject, True)
+            subject = self.certificate(subject, is_last=True)
         return subject
 
     def items_with_keys(self) -> list[Value]:
@@ -173,10 +173,10 @@ class Builder:
 
     def entries(self, subject: Subject) -> list[Value]:
         """The entry of the chain, and others that nearly match. To be called after `chain`: an entry that certificates follow must delegate."""
-        entries = [self.entry(subject, bool(self.items))]
+        entries = [self.entry(subject, propagate=bool(self.items))]
         for _ in range(self.rng.choice((0, 0, 0, 0, 1, 1, 1, 2, 2, 12))):
-            other = subject if self.rng.random() < 0.7 else self.next_subject(0.3)
-            entries.insert(self.rng.randrange(len(entries) + 1), self.entry(other, self.rng.random() < 0.7))
+            other = subject if self.rng.random() < 0.7 else self.next_subject(name_chance=0.3)
+            entries.insert(self.rng.randrange(len(entries) + 1), self.entry(other, propagate=self.rng.random() < 0.7))
         return entries
 
     def entry(self, subject: Subject, propagate: bool) -> Value:
@@ -186,7 +186,7 @@ class Builder:
 
     def case(self) -> Value:
         """The whole case: an entry and a chain from it to the key that asks, mostly. To be called once."""
-        subject = self.next_subject(0.3)
+        subject = self.next_subject(name_chance=0.3)
         last = self.chain(subject, self.rng.choice(self.lengths))
         entries = self.entries(subject) if not self.by_chance(0.02) else []
         if self.by_chance(0.1):

@@ -78,7 +78,7 @@ def with_oddity(question: GuardQuestion, rng: random.Random, oddity: str) -> Gua
 
 def part_text(value: Value, rng: random.Random) -> bytes:
     """A text of a part. By chance its value or the text is changed, or a second value follows."""
-    text = maybe_wrong_text(maybe_changed(value, rng, 0.03), rng, 0.03)
+    text = maybe_wrong_text(maybe_changed(value, rng, chance=0.03), rng, wrong=0.03)
     return text + canonical(value) if rng.random() < 0.01 else text
 
 

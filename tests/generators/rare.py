@@ -80,7 +80,7 @@ class GrowingTags(LargeTags):
 
     def next_subject(self, name_chance: float) -> Subject:
         """A key, whatever `name_chance` is, so that each certificate is one of an authorization."""
-        return super().next_subject(0)
+        return super().next_subject(name_chance=0)
 
 
 def large_case(rng: random.Random) -> bytes:

@@ -69,7 +69,7 @@ def smaller_texts(text: bytes) -> Iterator[bytes]:
     """Smaller texts: shorter ones of the same value or of one of `smaller_values`, unless the text is LARGE, and the text without some octets."""
     try:
         value = forms.read(text) if len(text) < LARGE else None
-    except FormFault:
+    except FormFault:  # (no value: then octets alone are left out)
         value = None
     if value is not None:
         for each in chain([value], smaller_values(value)):

@@ -33,7 +33,7 @@ def tag_for(allowed: Value, rng: random.Random, depth: int = 3) -> Value:
         length = rng.randrange(1, len(allowed) + 1)
         members = [tag_for(member, rng, depth - 1) for member in allowed[1:length]]
         if rng.random() < 0.05:
-            members.append(tag(rng, 0))
+            members.append(tag(rng, depth=0))
         return (allowed[0], *members)
     if kind < 0.5:
         return allowed
@@ -96,11 +96,11 @@ def pair(rng: random.Random) -> tuple[Value, Value]:
 
 def two_sets(rng: random.Random) -> tuple[Value, Value]:
     """Two written sets with tags for the same requests, in some order each."""
-    requests = [request(rng, 1) for _ in range(rng.choice((2, 2, 3, 3, 4, 12)))]
+    requests = [request(rng, depth=1) for _ in range(rng.choice((2, 2, 3, 3, 4, 12)))]
     sets = []
     for _ in range(2):
-        members = [tag_for(each, rng, 1) if rng.random() < 0.5 else each for each in requests]
-        members += [tag(rng, 1)] if rng.random() < 0.3 else []
+        members = [tag_for(each, rng, depth=1) if rng.random() < 0.5 else each for each in requests]
+        members += [tag(rng, depth=1)] if rng.random() < 0.3 else []
         rng.shuffle(members)
         sets.append((*EMPTY_SET, *members))
     return sets[0], sets[1]
@@ -131,7 +131,7 @@ def request_near(tag: Tag, rng: random.Random) -> Value:
         return request_near(rng.choice(tag.members), rng)
     if isinstance(tag, Plain):
         members = [request_near(member, rng) for member in tag.members]
-        members += [request(rng, 1) for _ in range(rng.choice((0, 0, 1)))]
+        members += [request(rng, depth=1) for _ in range(rng.choice((0, 0, 1)))]
         return tuple(members) if isinstance(members[0], Atom) and members[0].body != b"*" else members[0]
     if isinstance(tag, Prefix):
         return Atom(near(tag.start + rng.choice((b"", b"a", b"\xff")), rng))

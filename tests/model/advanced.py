@@ -44,7 +44,7 @@ def read(text: bytes) -> Value:
     try:
         if len(text) > LONGEST:
             raise FormFault("TooLong")
-        value, end = value_at(text, past_whitespace(text, 0), 0)
+        value, end = value_at(text, past_whitespace(text, 0), open_lists=0)
         behind = past_whitespace(text, end)
         if behind < len(text):
             raise FormFault("Trailing", behind)

@@ -22,7 +22,7 @@ def read(text: bytes) -> Value:
     if len(text) > LONGEST:
         raise FormFault("TooLong")
     try:
-        value, end = value_at(text, 0, 0)
+        value, end = value_at(text, at=0, open_lists=0)
         if end < len(text):
             raise FormFault("Trailing", end)
     except FormFault as fault:

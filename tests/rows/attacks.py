@@ -55,7 +55,7 @@ def raw(text: str) -> bytes:
 
 
 def attacks_by_headers() -> Iterator[Plain]:
-    """Requests in which a client sends headers that only the web server may set: Eve, who has no right, sends most, so that they must be denied."""
+    """Requests in which clients send headers that only the web server may set: Eve, who has no right, and others who ask for more than they may."""
     for what, *lines in [
             ("Ann's certificate in the server's header", "X-Client-Cert: {ann}"),
             ("the same in lower case", "x-client-cert: {ann}"), ("the same with an underscore", "X_Client_Cert: {ann}"),

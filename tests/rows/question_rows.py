@@ -48,7 +48,7 @@ def of_refused_parts() -> Iterator[CallRow]:
 
 def of_refused_part(place: str, texts: list[bytes], part: str, item: int | None, kind: str) -> Iterator[CallRow]:
     """The rows in which a guard refuses the texts of a list, sequence, key, request and moment, for the fault of one of them: `part`, a key
-    of PART. `item`, the place of its member (None for a request), and `kind` are the fault, which answers name in Rattle, lines in words."""
+    of PART. `item`, the place of its member (None for a request), and `kind` are the fault: a value of Rattle in answers, words in lines."""
     fault, message = f"CertFault {{ item: {item}, kind: {kind} }}", f"item {item}: {TEXT_OF[kind]}"
     guard = texts[0], b"open", b"", b""
     words = kind.replace("(", " ").replace(")", "")  # (a fault `Tag(EmptyList)` is `Tag EmptyList` in a line)
