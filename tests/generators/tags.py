@@ -114,7 +114,7 @@ def range_or_prefix_for(body: bytes, rng: random.Random) -> Value:
 
 
 def changed_request(old: Value, rng: random.Random) -> Value:
-    """A request that differs from the given one in one string, or by chance in none. The head of a list gets an octet `x` more."""
+    """A request that differs from the given one in one string, or by chance in none. The head of a list gets an `x` more, so that it is not `*`."""
     if isinstance(old, Atom):
         return Atom(rng.choice(STRINGS))
     at = rng.randrange(len(old))

@@ -184,7 +184,7 @@ def check(case: Case, rows: list[Row]) -> Answer:
 def decide(case: Case, rows: list[Row]) -> Answer:
     """The answer of a guard: the first entry that grants the request, or no. Unlike `check` it intersects no tags, so it never refuses a case."""
     def grants(entry: Entry, steps: Steps) -> bool:
-        """Whether the tree that joins all from the left grants the request."""
+        """Whether the tree that joins all from the left grants the request. In a short chain every bracketing is tried too."""
         first, others = reduction.entry_tuple(entry), [step for _, step in steps]
         is_granted = derivations.grants_from_left([first, *others], case.key, case.request, case.moment, case.strict)
         if len(steps) <= SHORT_CHAIN:

@@ -52,8 +52,8 @@ def is_for(root: Node, key: Key, strict: bool) -> bool:
 def node_of(step: Tuple) -> Node:
     """The leaf of a tree for a tuple. A name's definition never delegates."""
     if isinstance(step, Authorization):
-        return Node(step.issuer, None, step.subject, step.propagate)
-    return Node(step.key, step.name, step.subject, False)
+        return Node(step.issuer, name=None, subject=step.subject, propagate=step.propagate)
+    return Node(step.key, step.name, step.subject, propagate=False)
 
 
 def roots(leaves: list[Node], strict: bool) -> set[Node]:
@@ -79,4 +79,4 @@ def joined_by_rule(left: Node, right: Node, strict: bool) -> Iterator[Node]:
             subject = Subject(right.subject.principal, right.subject.names + left.subject.names[1:])
             yield Node(left.issuer, left.name, subject, left.propagate)
     elif left.name is None and not left.subject.names and left.propagate:
-        yield Node(left.issuer, None, right.subject, right.propagate)
+        yield Node(left.issuer, name=None, subject=right.subject, propagate=right.propagate)

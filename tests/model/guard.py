@@ -141,7 +141,7 @@ def strings_in(value: Value) -> int:
 
 
 def part(name: str, reader: Any, text: bytes) -> Any:
-    """What a reader returns for a part's text. Raises Refused with the part's name."""
+    """What a reader, such as `structures.read_key`, returns for a part's text. Raises Refused with the part's name."""
     try:
         value = forms.read_within_limit(text)
     except FormFault as fault:
@@ -266,7 +266,7 @@ def status_too_small(row: str) -> int:
 def misuse_of_opening(policy: int, limits: Limits, oddity: str) -> str | None:
     """The row of OPENED that says what is misuse when a guard is opened: of the policy, the limits, or `oddity` if it is one. None if nothing is."""
     if policy not in POLICIES:
-        return OPENED[0]
+        return OPENED[0]  # (no policy has this number)
     above = [row for row, limit in zip(OPENED[1:4], ("octets", "nodes", "work"), strict=True) if getattr(limits, limit) > getattr(HIGHEST, limit)]
     return above[0] if above else oddity if oddity in OPENED else None
 

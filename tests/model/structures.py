@@ -401,7 +401,7 @@ def read_entry(value: Value) -> Entry:
 
 
 def read_access_list(value: Value) -> list[Entry]:
-    """Reads `(acl version? entry*)`."""
+    """Reads `(acl version? entry*)`. Raises ItemFault for an entry, by its number from 1, and for the version, by 0."""
     entries = Members(value, b"acl").left
     if entries and head_of(entries[0]) == b"version":
         read_numbered(0, read_version, entries[0])
@@ -461,7 +461,7 @@ def read_operation(value: Value) -> Operation:
 
 
 def read_sequence(value: Value) -> list[Item]:
-    """Reads `(sequence item*)`. Behind each certificate must be its signature, with only `(do ..)` between."""
+    """Reads `(sequence item*)`. Behind each certificate must be its signature, with only `(do ..)` between. Raises ItemFault for an item."""
     items: list[Item] = []
     # the number of the certificate whose signature is still to come, or 0
     unsigned = 0

@@ -225,9 +225,9 @@ def has_set(tag: Tag) -> bool:
 
 
 def weight(tag: Tag) -> int:
-    """The nodes of a tag except the heads of lists, plus the octets of all its strings: a part of `node_cost`. A list is as much as its members."""
+    """The nodes of a tag except the heads of lists, plus the octets of all its strings: a part of `node_cost`."""
     if isinstance(tag, Plain):
-        return weight(tag.members[0]) + sum(map(weight, tag.members[1:]))
+        return sum(map(weight, tag.members))  # (of a list and its head one node counts)
     if isinstance(tag, AnyOf):
         return 1 + sum(map(weight, tag.members))
     if isinstance(tag, Range):

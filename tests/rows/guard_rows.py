@@ -149,7 +149,7 @@ def parts_of(text: bytes) -> list[bytes]:
 def answer_of(wish: str, parts: list[bytes], rows: bytes) -> tuple[guard.Answer, list[guard.Signed]]:
     """What the model answers to the parts of a case (`parts_of`) and its rows, and the signatures of it. `wish`: `decide`, `explain` or `reduce`."""
     question, policy = guard.Parts(*parts[1:5]), guard.OPEN if parts[5] == b"open" else guard.STRICT
-    return guard.answer(wish, parts[0], question, cases.read_rows(forms.read(rows)), policy, guard.USUAL, "")
+    return guard.answer(wish, parts[0], question, cases.read_rows(forms.read(rows)), policy, guard.USUAL, oddity="")
 
 
 def in_debug(wish: str, answer: bytes) -> bytes:
@@ -217,7 +217,7 @@ def of_question(place: str, wish: str, parts: list[bytes], rows: bytes, answer: 
         policy = guard.OPEN if parts[5] == b"open" else guard.STRICT
         is_possible = guard.is_possible(parts[0], guard.Parts(*question), policy, guard.USUAL)
         for call in ("PreparedQuestion::is_possible", "OwnedQuestion::is_possible"):
-            for some_marks in sorted({marks, b""}):
+            for some_marks in sorted({marks, b""}):  # (on which the answer does not depend)
                 yield CallRow(f"{place} {call}, {len(some_marks)} marks", call, (*opening, *question, some_marks), b"yes" if is_possible else b"no")
         yield CallRow(f"{place} other marks", "answer_opened", (*opening, b"decide", *question, marks + b"1"), b"other marks")  # (one too many)
         yield CallRow(f"{place} opened", "OwnedQuestion::decide_by", (*opening, *question, marks), result)
