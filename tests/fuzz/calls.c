@@ -11,7 +11,7 @@
 /* The octets on each side of a buffer, and what each is; what a buffer's are before a call; places of `marks`; a usual buffer; places of `seen`. */
 enum { CANARIES = 16, CANARY = 0xa5, UNTOUCHED = 0x5a, MOST_MARKS = 64, ROOM = 256, COUNTERS = 4096 };
 
-/* The answers that were seen, by their `count`. libFuzzer reads this section. */
+/* The answers that were seen, by the checksum of tell_of_answer. libFuzzer reads this section. */
 __attribute__((section("__libfuzzer_extra_counters"))) static uint8_t seen[COUNTERS];
 
 int LLVMFuzzerTestOneInput(const uint8_t *data, size_t size);

@@ -149,7 +149,7 @@ static int impossible_requests()
     return 0;
 }
 
-// A guard or question that was moved away counts 0 entries or signatures, decides no, and refuses other calls as misuse. A key keeps its text.
+// A guard or question that was moved away counts 0 entries or signatures, decides no, and refuses other calls as misuse. A moved key keeps its text.
 static int moved_handles()
 {
     spki::guard guard(list);
