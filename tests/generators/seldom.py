@@ -1,4 +1,4 @@
-"""Questions that seldom come by chance. Each has a number of its own, so that no seed leaves it out."""
+"""Questions that seldom come by chance. Each has a number of its own, so that no seed leaves it out. A maker makes one, by random numbers."""
 import hashlib
 import random
 from collections.abc import Callable, Iterator

@@ -55,7 +55,7 @@ def octets_of(escape: re.Match[bytes]) -> bytes:
 
 
 def unescaped(field: bytes) -> bytes:
-    """The octets that a field of a row stands for. Raises as `octets_of`."""
+    """The octets that a field of a row stands for. Raises ValueError for an escape without a meaning, OSError for a file that cannot be read."""
     return ESCAPE.sub(octets_of, field)
 
 

@@ -16,7 +16,7 @@ def octets_of(text: str | bytes) -> bytes:
 
 
 def canonical(text: str | bytes) -> bytes:
-    """The canonical form of a text in any form. Raises as `forms.read` if it is not one value."""
+    """The canonical form of a text in any form. Raises FormFault if it is not one value."""
     return values.canonical(forms.read(octets_of(text)))
 
 
@@ -80,7 +80,7 @@ CHAIN = [(key("a"), key("b")), (key("b"), key("c")), (key("c"), key("d"))]
 
 def chain(changed=None, how=None):
     """The rows and the items of CHAIN, two texts as of `rows_and_items`. The certificate at the place `changed`, from 0, fails the test of evidence
-    that `how` names: one of those in `chains`. By default all pass."""
+    that `how` names: `key not shown`, `digest differs`, `signer differs` or `not accepted`. By default all pass."""
     rows, items = [], []
     for place, (issuer, subject) in enumerate(CHAIN):
         fails = how if place == changed else None
