@@ -184,7 +184,7 @@ FIRST = {b"a": (6, 6), b"b": (3, 4), b"c": (4, 4), b"d": (2, 2), b"e": (2, 2), b
 
 
 def of_several_entries() -> Iterator[CallRow]:
-    """Questions to a list of entries for KA by its hashes, for KA and for others. The first that grants is named. By the strict policy SHA-1 names none."""
+    """Questions to a list of entries for hashes of KA, for KA and for others. The first that grants is named, by the strict policy none by SHA-1."""
     def hashed(alg: str, tag: str) -> str:
         """An entry for the hash of KA by an algorithm, with a tag."""
         return f"(entry (hash {alg} #{hashlib.new(alg, A).hexdigest()}#) (tag {tag}))"
