@@ -1,5 +1,6 @@
 /* Calls spki.h with parts that are made from fuzzed octets (libFuzzer), and compares the answers: a guard's with those to the case of the same parts,
  * a decision with its explanation, a text with what it is converted to and back. Some calls are made with a request for memory refused first.
+ * `below(in, N)` takes a number below N from the input, and `mostly(in, U, N)` is U in three of four cases.
  *
  * The library is not instrumented, so libFuzzer is told of each new answer as of a new place in the code. */
 #include "../programs/refusals.h"
@@ -7,11 +8,10 @@
 
 #include <spki.h>
 
-/* Octets before and behind each buffer, and what each of them is; what each octet of a buffer is before a call; places of `marks`; octets of the
- * usual buffer; places of `seen`. */
+/* The octets on each side of a buffer, and what each is; what a buffer's are before a call; places of `marks`; a usual buffer; places of `seen`. */
 enum { CANARIES = 16, CANARY = 0xa5, UNTOUCHED = 0x5a, MOST_MARKS = 64, ROOM = 256, COUNTERS = 4096 };
 
-/* The answers that were seen, by their `count`. libFuzzer reads this section. */
+/* The answers that were seen, by the checksum of tell_of_answer. libFuzzer reads this section. */
 __attribute__((section("__libfuzzer_extra_counters"))) static uint8_t seen[COUNTERS];
 
 int LLVMFuzzerTestOneInput(const uint8_t *data, size_t size);
@@ -37,7 +37,7 @@ struct answer {
 
 /* Tells libFuzzer of an answer: sets the octet of `seen` that a checksum names. It is of the status and of the letters among the first 64 octets of
  * the first line: numbers would make many answers of one. */
-static void count(const struct answer *answer)
+static void tell_of_answer(const struct answer *answer)
 {
     uint32_t sum = (uint32_t)answer->status;
     for (size_t place = 0; place < answer->length && answer->octets[place] != '\n' && place < 64; place++)
@@ -81,8 +81,8 @@ static int is_line(const struct answer *answer, const char *wanted)
 }
 
 /* In one of four cases does a call while one of its requests for memory is refused. If the call made that request, its answer must be
- * `refused Memory`. It may make fewer: then it is done as usual, and what it opened is left in its place. */
-static void refuse(struct input *in, call *calls, const void *with)
+ * `refused Memory`. It may make fewer: then it is done, and what it opened is left in its place, which the caller closes. */
+static void call_without_memory(struct input *in, call *calls, const void *with)
 {
     struct answer answer;
     if (below(in, 4) < 3)
@@ -97,16 +97,16 @@ static void refuse(struct input *in, call *calls, const void *with)
 /* Does a call with a buffer of some size, and once more if that is too small. Returns the answer, whose octets the caller frees. */
 static struct answer answer_of(struct input *in, call *calls, const void *with)
 {
-    static const size_t sizes[] = {ROOM, 0, 1, 11};
+    static const size_t sizes[] = {ROOM, 0, 1, 11}; /* (`yes entry 1` and its line feed have 12 octets) */
     struct answer answer;
-    refuse(in, calls, with);
+    call_without_memory(in, calls, with);
     answer = do_call(calls, with, sizes[below(in, 4)]);
     if (answer.status == SPKI_TOO_SMALL) {
         free(answer.octets);
         answer = do_call(calls, with, answer.length);
         expect(answer.status != SPKI_TOO_SMALL, "the length that was needed is not enough");
     }
-    count(&answer);
+    tell_of_answer(&answer);
     return answer;
 }
 
@@ -119,27 +119,27 @@ static int are_same(const struct answer *one, const struct answer *other)
 /* ---- texts */
 
 /* A command and its text, or a case and the text of its rows. */
-struct of_text {
+struct text_args {
     enum spki_command command;
     struct spki_text text, rows;
 };
 
-/* The call of spki_answer: `with` is a struct of_text. The calls below take other structures in the same way. */
-static enum spki_status answers_text(const void *with, void *buffer, size_t length, size_t *needed)
+/* The call of spki_answer: `with` is a struct text_args. The calls below take other structures in the same way. */
+static enum spki_status call_answer(const void *with, void *buffer, size_t length, size_t *needed)
 {
-    const struct of_text *args = with;
+    const struct text_args *args = with;
     return spki_answer(args->command, args->text.octets, args->text.length, buffer, length, needed).status;
 }
 
-/* The call of spki_check_accepted, with a struct of_text. */
-static enum spki_status answers_rows(const void *with, void *buffer, size_t length, size_t *needed)
+/* The call of spki_check_accepted, with a struct text_args. */
+static enum spki_status call_check_accepted(const void *with, void *buffer, size_t length, size_t *needed)
 {
-    const struct of_text *args = with;
+    const struct text_args *args = with;
     return spki_check_accepted(args->text.octets, args->text.length, args->rows.octets, args->rows.length, buffer, length, needed).status;
 }
 
 /* Whether two texts have the same octets. */
-static int equals(struct spki_text one, struct spki_text other)
+static int are_equal(struct spki_text one, struct spki_text other)
 {
     return one.length == other.length && !memcmp(one.octets, other.octets, one.length);
 }
@@ -154,13 +154,13 @@ static struct spki_text lent(const struct text *text)
  * it is. The new form must have the canonical form of the text. */
 static void convert(struct input *in, struct text *text)
 {
-    struct of_text with = {SPKI_CANONICAL, lent(text), {0}}, again = with;
-    struct answer own = answer_of(in, answers_text, &with), other, back;
+    struct text_args with = {SPKI_CANONICAL, lent(text), {0}}, again = with;
+    struct answer own = answer_of(in, call_answer, &with), other, back;
     with.command = (enum spki_command)below(in, 3);
-    other = answer_of(in, answers_text, &with);
+    other = answer_of(in, call_answer, &with);
     expect(own.status == other.status, "a text is read as one form only");
     again.text = (struct spki_text){other.octets, other.length};
-    back = answer_of(in, answers_text, &again);
+    back = answer_of(in, call_answer, &again);
     expect(own.status != SPKI_DONE || are_same(&own, &back), "a text becomes another one in another form");
     if (own.status == SPKI_DONE && other.length < MOST_OCTETS) {
         text->length = 0;
@@ -173,7 +173,7 @@ static void convert(struct input *in, struct text *text)
 
 /* Looks for a string at some path in a text in canonical form. If there is none, the call must set a null pointer and the length 0, which are
  * neither before the call. One that is found must be inside the text. */
-static void find(struct input *in, struct spki_text text)
+static void find_string(struct input *in, struct spki_text text)
 {
     size_t path[4], depth = below(in, 5), length = 12345;
     const void *octets = &path;
@@ -190,58 +190,58 @@ static void find(struct input *in, struct spki_text text)
 /* ---- guards and questions */
 
 /* What a guard is opened with, and where it is put. */
-struct of_guard {
+struct guard_args {
     struct spki_text list;
     enum spki_policy policy;
     struct spki_limits *limits;
     spki_guard **guard;
 };
 
-/* The call of spki_guard_open, with a struct of_guard. */
-static enum spki_status opens(const void *with, void *buffer, size_t length, size_t *needed)
+/* The call of spki_guard_open, with a struct guard_args. */
+static enum spki_status call_guard_open(const void *with, void *buffer, size_t length, size_t *needed)
 {
-    const struct of_guard *args = with;
+    const struct guard_args *args = with;
     enum spki_status status = spki_guard_open(args->list.octets, args->list.length, args->policy, args->limits, args->guard, buffer, length, needed);
     expect((status == SPKI_DONE) == (*args->guard != NULL), "a list without a guard, or a guard without a list");
     return status;
 }
 
 /* A guard, the question that it is asked, and where the opened question is put. */
-struct of_question {
+struct question_args {
     const spki_guard *guard;
     struct spki_question *question;
     spki_asked **asked;
 };
 
-/* The call of spki_guard_ask, with a struct of_question. */
-static enum spki_status asks(const void *with, void *buffer, size_t length, size_t *needed)
+/* The call of spki_guard_ask, with a struct question_args. */
+static enum spki_status call_guard_ask(const void *with, void *buffer, size_t length, size_t *needed)
 {
-    const struct of_question *args = with;
+    const struct question_args *args = with;
     enum spki_status status = spki_guard_ask(args->guard, args->question, args->asked, buffer, length, needed);
     expect((status == SPKI_DONE) == (*args->asked != NULL), "a question without a handle, or a handle without a question");
     return status;
 }
 
 /* An opened question, and the call that answers it. */
-struct of_asked {
+struct asked_args {
     spki_asked *asked;
     enum spki_status (*answers)(const spki_asked *, void *, size_t, size_t *);
 };
 
-/* The call that a struct of_asked names: explains, reduces or decision_of. */
-static enum spki_status answers_asked(const void *with, void *buffer, size_t length, size_t *needed)
+/* The call that a struct asked_args names: status_of_explanation, status_of_reduction or status_of_decision. */
+static enum spki_status call_asked(const void *with, void *buffer, size_t length, size_t *needed)
 {
-    const struct of_asked *args = with;
+    const struct asked_args *args = with;
     return args->answers(args->asked, buffer, length, needed);
 }
 
-/* Each of the next two is a call for `answers` of struct of_asked: it returns the status alone. */
-static enum spki_status explains(const spki_asked *asked, void *buffer, size_t length, size_t *needed)
+/* Each of the next two is a call for `answers` of struct asked_args: it returns the status alone. */
+static enum spki_status status_of_explanation(const spki_asked *asked, void *buffer, size_t length, size_t *needed)
 {
     return spki_asked_explain(asked, buffer, length, needed).status;
 }
 
-static enum spki_status reduces(const spki_asked *asked, void *buffer, size_t length, size_t *needed)
+static enum spki_status status_of_reduction(const spki_asked *asked, void *buffer, size_t length, size_t *needed)
 {
     return spki_asked_reduce(asked, buffer, length, needed).status;
 }
@@ -252,28 +252,28 @@ static size_t first_equal(const spki_asked *asked, size_t place)
     struct spki_signed own, other;
     size_t first = 0;
     expect(spki_asked_signature(asked, place, &own) == SPKI_DONE, "no signature");
-    while (spki_asked_signature(asked, first, &other) == SPKI_DONE && !(equals(own.key, other.key) && equals(own.message, other.message)
-                                                                        && equals(own.value, other.value)))
+    while (spki_asked_signature(asked, first, &other) == SPKI_DONE && !(are_equal(own.key, other.key) && are_equal(own.message, other.message)
+                                                                        && are_equal(own.value, other.value)))
         first++;
     return first;
 }
 
 /* Looks at the signatures of a question, marks some of them, equal ones alike, and writes `(accepted (by ..) ..)` to `rows`, with
  * a row for each that is marked. Returns how many are not. */
-static size_t mark(struct input *in, spki_asked *asked, struct text *rows)
+static size_t mark_some(struct input *in, spki_asked *asked, struct text *rows)
 {
     static int marks[MOST_MARKS];
     const size_t count = spki_asked_count(asked);
     struct spki_signed signature;
     size_t unmarked = 0;
-    begin(rows, "accepted");
+    begin_list(rows, "accepted");
     expect(count <= MOST_MARKS, "more signatures than certificates");
     for (size_t place = 0; place < count; place++) {
         struct text message = {0};
         expect(spki_asked_signature(asked, place, &signature) == SPKI_DONE, "no signature");
-        find(in, signature.key);
-        find(in, signature.message);
-        find(in, signature.value);
+        find_string(in, signature.key);
+        find_string(in, signature.message);
+        find_string(in, signature.value);
         marks[place] = mostly(in, 1, 3) == 1;
         marks[place] = marks[first_equal(asked, place)];
         if (!marks[place]) {
@@ -281,26 +281,26 @@ static size_t mark(struct input *in, spki_asked *asked, struct text *rows)
             continue;
         }
         expect(spki_asked_mark(asked, place) == SPKI_DONE, "a signature that cannot be marked");
-        begin(rows, "by");
+        begin_list(rows, "by");
         put(rows, signature.key.octets, signature.key.length);
         put(&message, signature.message.octets, signature.message.length);
-        put_hash(rows, &message, 0); /* (by SHA-256, as a row requires) */
+        put_hash(rows, &message, BY_SHA256); /* (a row requires this algorithm) */
         put(rows, signature.value.octets, signature.value.length);
-        end(rows);
+        end_list(rows);
     }
-    end(rows);
+    end_list(rows);
     expect(spki_asked_signature(asked, count, &signature) == SPKI_NONE && !signature.key.octets, "a signature too many");
     expect(spki_asked_mark(asked, count) == SPKI_MISUSED, "a mark too many");
     return unmarked;
 }
 
 /* Explains and reduces an opened question. The explanation must name the entry of a yes, and no entry with a no. */
-static void explain(struct input *in, struct of_asked *with, const struct answer *decision)
+static void explain(struct input *in, struct asked_args *with, const struct answer *decision)
 {
     struct answer lines;
     char wanted[64] = "grants\n";
-    with->answers = explains;
-    lines = answer_of(in, answers_asked, with);
+    with->answers = status_of_explanation;
+    lines = answer_of(in, call_asked, with);
     expect(lines.status == SPKI_DONE || is_line(&lines, "refused TooLarge\n"), "no explanation");
     if (lines.status == SPKI_DONE) {
         const unsigned char *found;
@@ -310,47 +310,48 @@ static void explain(struct input *in, struct of_asked *with, const struct answer
         expect((decision->status == SPKI_YES) == (found != NULL), "the explanation says otherwise than the decision");
     }
     free(lines.octets);
-    with->answers = reduces;
-    lines = answer_of(in, answers_asked, with);
+    with->answers = status_of_reduction;
+    lines = answer_of(in, call_asked, with);
     expect(lines.status == SPKI_DONE || is_line(&lines, "refused TooLarge\n"), "no reduction");
     free(lines.octets);
 }
 
 /* Adds a part to a case, in canonical form: in a list with this head, or as it is without a head. */
-static void add(struct input *in, struct text *whole, const char *head, const struct text *part)
+static void put_part(struct input *in, struct text *whole, const char *head, const struct text *part)
 {
-    struct of_text with = {SPKI_CANONICAL, lent(part), {0}};
-    struct answer canonical = answer_of(in, answers_text, &with);
+    struct text_args with = {SPKI_CANONICAL, lent(part), {0}};
+    struct answer canonical = answer_of(in, call_answer, &with);
     expect(canonical.status == SPKI_DONE, "a part that was read is no value");
     if (head)
-        begin(whole, head);
+        begin_list(whole, head);
     put(whole, canonical.octets, canonical.length);
     if (head)
-        end(whole);
+        end_list(whole);
     free(canonical.octets);
 }
 
 /* Decides the case of the same parts, once by accepted signatures (`rows`) that are given apart, and once by the same in the case (`own`). Each
  * answer must be that of the guard, unless the tags are too large or the case has no room. */
-static void compare(struct input *in, const struct parts *parts, const struct text *rows, enum spki_policy policy, const struct answer *decision)
+static void compare_with_case(struct input *in, const struct parts *parts, const struct text *rows, enum spki_policy policy,
+                              const struct answer *decision)
 {
     static struct text whole[2];
-    struct of_text with = {SPKI_CHECK, {0}, lent(rows)};
+    struct text_args with = {SPKI_CHECK, {0}, lent(rows)};
     for (int own = 0; own < 2; own++) {
         struct answer answer;
         whole[own].length = 0;
-        begin(&whole[own], "case");
-        add(in, &whole[own], NULL, &parts->list);
+        begin_list(&whole[own], "case");
+        put_part(in, &whole[own], NULL, &parts->list);
         put(&whole[own], own ? (const char *)rows->octets : "(8:accepted)", own ? rows->length : 12);
-        add(in, &whole[own], NULL, &parts->sequence);
-        add(in, &whole[own], "key", &parts->key);
-        add(in, &whole[own], "request", &parts->request);
-        add(in, &whole[own], "at", &parts->moment);
+        put_part(in, &whole[own], NULL, &parts->sequence);
+        put_part(in, &whole[own], "key", &parts->key);
+        put_part(in, &whole[own], "request", &parts->request);
+        put_part(in, &whole[own], "at", &parts->moment);
         if (policy == SPKI_STRICT)
             put(&whole[own], "(6:policy6:strict)", 18);
-        end(&whole[own]);
+        end_list(&whole[own]);
         with.text = lent(&whole[own]);
-        answer = answer_of(in, own ? answers_text : answers_rows, &with);
+        answer = answer_of(in, own ? call_answer : call_check_accepted, &with);
         /* (what has no room is left out of `whole`, so it is another case then) */
         expect(are_same(&answer, decision) || is_line(&answer, "refused TooLarge\n") || whole[own].length > MOST_OCTETS - 64,
                "the guard decides otherwise than the case");
@@ -358,8 +359,8 @@ static void compare(struct input *in, const struct parts *parts, const struct te
     }
 }
 
-/* Decides an opened question, for a struct of_asked. Only a yes has an end, `until`: otherwise it is INT64_MIN. */
-static enum spki_status decision_of(const spki_asked *asked, void *buffer, size_t length, size_t *needed)
+/* Decides an opened question, for a struct asked_args. Only a yes has an end, `until`: otherwise it is INT64_MIN. */
+static enum spki_status status_of_decision(const spki_asked *asked, void *buffer, size_t length, size_t *needed)
 {
     const struct spki_decision decision = spki_asked_decide(asked, buffer, length, needed);
     expect((decision.status == SPKI_YES) == (decision.until != INT64_MIN), "a yes without an end, or the end of none");
@@ -370,38 +371,37 @@ static enum spki_status decision_of(const spki_asked *asked, void *buffer, size_
 static void decide(struct input *in, const struct parts *parts, spki_asked *asked, enum spki_policy policy)
 {
     static struct text rows;
-    struct of_asked with = {asked, decision_of};
+    struct asked_args with = {asked, status_of_decision};
     struct answer decision, again;
     const size_t count = spki_asked_count(asked);
     const bool is_possible = spki_asked_possible(asked);
     size_t unmarked;
     rows.length = 0;
     expect(!count || !spki_asked_granted(asked), "a grant without a valid signature");
-    unmarked = mark(in, asked, &rows);
-    decision = answer_of(in, answers_asked, &with);
+    unmarked = mark_some(in, asked, &rows);
+    decision = answer_of(in, call_asked, &with);
     expect(decision.status == SPKI_YES || is_line(&decision, "no\n"), "no decision");
     expect(spki_asked_granted(asked) == (decision.status == SPKI_YES), "a yes that is none, or none that is one");
     expect(decision.status == SPKI_NO || !unmarked, "a grant with a signature that is not valid");
     expect(unmarked || is_possible == (decision.status == SPKI_YES), "all signatures are valid, and the answer is not the one that was possible");
     expect(spki_asked_possible(asked) == is_possible, "a mark changes what is possible");
-    compare(in, parts, &rows, policy, &decision);
+    compare_with_case(in, parts, &rows, policy, &decision);
     explain(in, &with, &decision);
-    with.answers = decision_of;
-    again = answer_of(in, answers_asked, &with);
+    with.answers = status_of_decision;
+    again = answer_of(in, call_asked, &with);
     expect(are_same(&decision, &again), "another decision by the same marks");
     free(again.octets);
     free(decision.octets);
 }
 
-/* Asks a guard the question of these parts, closes the guard, and then decides the question. The texts of the question are copies, which are
- * overwritten before it is decided. */
+/* Asks a guard the question of these parts, closes the guard, overwrites the texts of the question, which are copies, and then decides it. */
 static void ask(struct input *in, const struct parts *parts, spki_guard *guard, enum spki_policy policy)
 {
     static struct parts copy;
     struct spki_text words[MOST_WORDS + 1];
     struct spki_question question = {.size = sizeof question};
     spki_asked *asked = NULL;
-    struct of_question with = {guard, &question, &asked};
+    struct question_args with = {guard, &question, &asked};
     struct answer answer;
     copy = *parts;
     question.sequence = lent(&copy.sequence);
@@ -418,11 +418,11 @@ static void ask(struct input *in, const struct parts *parts, spki_guard *guard, 
         question.seconds = &copy.seconds;
     else
         question.moment = lent(&copy.moment);
-    refuse(in, asks, &with);
+    call_without_memory(in, call_guard_ask, &with);
     spki_asked_close(asked);
-    answer = do_call(asks, &with, ROOM);
+    answer = do_call(call_guard_ask, &with, ROOM);
     expect(answer.status == SPKI_DONE || answer.status == SPKI_REFUSED, "a question is misuse");
-    count(&answer);
+    tell_of_answer(&answer);
     free(answer.octets);
     memset(&copy, 0xff, sizeof copy);
     spki_guard_close(guard);
@@ -433,7 +433,7 @@ static void ask(struct input *in, const struct parts *parts, spki_guard *guard, 
 
 /* Makes parts of one input, spoils some of them, writes each in some form, opens a guard and asks it. The last three limits are each 10,000, mostly
  * enough, or by the input below 1,000, where 0 is the usual limit. A request or moment given as strings or in seconds is not spoiled (`others` is
- * true then): in the case that `compare` makes, its text must mean the same. */
+ * true then): in the case that `compare_with_case` makes, its text must mean the same. */
 int LLVMFuzzerTestOneInput(const uint8_t *data, size_t size)
 {
     static struct parts parts;
@@ -442,7 +442,7 @@ int LLVMFuzzerTestOneInput(const uint8_t *data, size_t size)
     unsigned *const others[] = {NULL, NULL, NULL, &parts.is_worded, &parts.is_in_seconds};
     struct spki_limits limits = SPKI_USUAL_LIMITS;
     spki_guard *guard = NULL;
-    struct of_guard with = {{0}, (enum spki_policy)below(&in, 2), &limits, &guard};
+    struct guard_args with = {{0}, (enum spki_policy)below(&in, 2), &limits, &guard};
     struct answer answer;
     limits.nodes = mostly(&in, 200, 20) * 50;
     limits.work = mostly(&in, 200, 20) * 50;
@@ -454,11 +454,11 @@ int LLVMFuzzerTestOneInput(const uint8_t *data, size_t size)
         convert(&in, texts[place]);
     }
     with.list = lent(&parts.list);
-    refuse(&in, opens, &with);
+    call_without_memory(&in, call_guard_open, &with);
     spki_guard_close(guard);
-    answer = do_call(opens, &with, ROOM);
+    answer = do_call(call_guard_open, &with, ROOM);
     expect(answer.status == SPKI_DONE || answer.status == SPKI_REFUSED, "a list is misuse");
-    count(&answer);
+    tell_of_answer(&answer);
     free(answer.octets);
     if (guard)
         ask(&in, &parts, guard, with.policy);

@@ -1,5 +1,6 @@
 /* Makes the parts of a question from fuzzed octets. Most are valid: keys, tags, windows of time, and certificates with the digests that their
- * signatures need. Some have an octet changed, and some lack their end. */
+ * signatures need. Some have an octet changed, and some lack their end. `below(in, N)` takes a number below N from the input, and `mostly(in, U, N)`
+ * is U in three of four cases. Functions `put_..` add to a text in canonical form. */
 #ifndef PIECES_H
 #define PIECES_H
 
@@ -9,8 +10,8 @@
 #include <string.h>
 
 /* The most octets of a text, the room for strings of a request (whose usual limit is 64), the number of keys, the most lists in one another in a tag,
- * and a number over the most members of one such list. */
-enum { MOST_OCTETS = 32768, MOST_WORDS = 66, KEYS = 5, MOST_DEPTH = 3, MEMBERS = 4 };
+ * a number over the most members of one such list, and the algorithms of put_hash. */
+enum { MOST_OCTETS = 32768, MOST_WORDS = 66, KEYS = 5, MOST_DEPTH = 3, MEMBERS = 4, BY_SHA256 = 0, BY_SHA512, BY_SHA1 };
 
 /* What is left of the input. Behind its end all octets are 0. */
 struct input {
@@ -74,15 +75,15 @@ static void put_word(struct text *to, const char *octets)
     put_string(to, octets, strlen(octets));
 }
 
-/* Begins a list with this head. `end` ends it. */
-static void begin(struct text *to, const char *head)
+/* Begins a list with this head. `end_list` ends it. */
+static void begin_list(struct text *to, const char *head)
 {
     put(to, "(", 1);
     put_word(to, head);
 }
 
 /* Ends the list that was begun last. */
-static void end(struct text *to)
+static void end_list(struct text *to)
 {
     put(to, ")", 1);
 }
@@ -91,29 +92,29 @@ static void end(struct text *to)
 static void put_key(struct text *to, unsigned which)
 {
     const char name[] = {(char)('a' + which), 0};
-    begin(to, "public-key");
-    begin(to, "test");
+    begin_list(to, "public-key");
+    begin_list(to, "test");
     put_word(to, name);
-    end(to);
-    end(to);
+    end_list(to);
+    end_list(to);
 }
 
-/* Adds the hash of a text, `(hash ..)`, by an algorithm: 0 is SHA-256, 1 SHA-512 and 2 SHA-1. */
+/* Adds the hash of a text, `(hash ..)`, by an algorithm. */
 static void put_hash(struct text *to, const struct text *of, unsigned algorithm)
 {
     static const char *const names[] = {"sha256", "sha512", "sha1"};
     static const size_t lengths[] = {32, 64, 20};
     unsigned char digest[64];
-    begin(to, "hash");
+    begin_list(to, "hash");
     put_word(to, names[algorithm]);
-    if (algorithm == 0)
+    if (algorithm == BY_SHA256)
         SHA256(of->octets, of->length, digest);
-    else if (algorithm == 1)
+    else if (algorithm == BY_SHA512)
         SHA512(of->octets, of->length, digest);
     else
         SHA1(of->octets, of->length, digest);
     put_string(to, digest, lengths[algorithm]);
-    end(to);
+    end_list(to);
 }
 
 /* Adds the key with this number, or in one of three cases its hash: mostly by SHA-256. */
@@ -125,7 +126,7 @@ static void put_principal(struct input *in, struct text *to, unsigned which)
         return;
     }
     put_key(&key, which);
-    put_hash(to, &key, mostly(in, 0, 3));
+    put_hash(to, &key, mostly(in, BY_SHA256, 3));
 }
 
 /* The strings of requests, tags and names. */
@@ -136,15 +137,15 @@ enum { STRINGS = sizeof strings / sizeof *strings };
 static void put_subject(struct input *in, struct text *to, unsigned which)
 {
     unsigned names = mostly(in, 0, 4);
-    begin(to, "subject");
+    begin_list(to, "subject");
     if (names)
-        begin(to, "name");
+        begin_list(to, "name");
     put_principal(in, to, which);
     for (unsigned name = 1; name < names; name++)
         put_word(to, strings[below(in, 4)]);
     if (names)
-        end(to);
-    end(to);
+        end_list(to);
+    end_list(to);
 }
 
 /* Adds a tag `(* range ..)` with up to two limits, first the lower and then the upper one. Not each ordering is one that the library reads. */
@@ -153,23 +154,23 @@ static void put_range(struct input *in, struct text *to)
     static const char *const orders[] = {"alpha", "numeric", "time", "binary", "date"};
     static const char *const bounds[] = {"g", "ge", "l", "le"};
     unsigned limits = below(in, 3);
-    begin(to, "*");
+    begin_list(to, "*");
     put_word(to, "range");
     put_word(to, orders[below(in, 5)]);
     for (unsigned limit = 0; limit < limits; limit++) {
         put_word(to, bounds[limit * 2 + below(in, 2)]);
         put_word(to, strings[below(in, STRINGS)]);
     }
-    end(to);
+    end_list(to);
 }
 
 /* Adds a tag `(* prefix ..)`. */
 static void put_prefix(struct input *in, struct text *to)
 {
-    begin(to, "*");
+    begin_list(to, "*");
     put_word(to, "prefix");
     put_word(to, strings[below(in, STRINGS)]);
-    end(to);
+    end_list(to);
 }
 
 /* Adds a tag that contains the request: the list of some of its strings, from the first on, or its one string. */
@@ -181,14 +182,14 @@ static void put_requested(struct input *in, struct text *to)
     for (size_t place = 0; place < count; place++)
         put_string(to, question_parts->words[place].octets, question_parts->words[place].length);
     if (question_parts->word_count != 1)
-        end(to);
+        end_list(to);
 }
 
 /* Adds a tag, with up to `depth` lists and sets in one another. At 0 it has none of its own, but may be the list that is the request. */
 static void put_tag(struct input *in, struct text *to, unsigned depth)
 {
     static void (*const kinds[])(struct input *, struct text *) = {put_requested, put_prefix, put_range};
-    unsigned kind = below(in, depth ? 7 : 5), members = below(in, MEMBERS);
+    unsigned kind = below(in, depth ? 7 : 5), members = below(in, MEMBERS); /* (the kinds 5 and 6 are sets and lists) */
     if (kind < 3) {
         kinds[kind](in, to);
     } else if (kind == 3) {
@@ -196,12 +197,12 @@ static void put_tag(struct input *in, struct text *to, unsigned depth)
     } else if (kind == 4) {
         put_word(to, strings[below(in, STRINGS)]);
     } else {
-        begin(to, kind == 5 ? "*" : strings[below(in, 3)]);
+        begin_list(to, kind == 5 ? "*" : strings[below(in, 3)]);
         if (kind == 5)
             put_word(to, "set");
         while (members--)
             put_tag(in, to, depth - 1);
-        end(to);
+        end_list(to);
     }
 }
 
@@ -211,30 +212,30 @@ static const struct {
     const char *date;
 } moments[] = {{1704067200, "2024-01-01_00:00:00"}, {1704067199, "2023-12-31_23:59:59"}, {951782400, "2000-02-29_00:00:00"},
                {4102444800, "2100-01-01_00:00:00"}};
-enum { MOMENTS = sizeof moments / sizeof *moments };
+enum { EARLY = 2, LATE = 3, MOMENTS = sizeof moments / sizeof *moments };
 
 /* Adds a limit of a window: mostly the moment at the place `usual` of `moments`. */
 static void put_limit(struct input *in, struct text *to, const char *head, unsigned usual)
 {
-    begin(to, head);
+    begin_list(to, head);
     put_word(to, moments[mostly(in, usual, MOMENTS)].date);
-    end(to);
+    end_list(to);
 }
 
 /* Adds what an entry and a certificate have in common: mostly the right to delegate, a tag, and in some cases the limits of a window. */
 static void put_fields(struct input *in, struct text *to)
 {
     if (mostly(in, 1, 2)) {
-        begin(to, "propagate");
-        end(to);
+        begin_list(to, "propagate");
+        end_list(to);
     }
-    begin(to, "tag");
+    begin_list(to, "tag");
     put_tag(in, to, below(in, MOST_DEPTH + 1));
-    end(to);
+    end_list(to);
     if (below(in, 4) == 3)
-        put_limit(in, to, "not-before", 2);
+        put_limit(in, to, "not-before", EARLY);
     if (below(in, 4) == 3)
-        put_limit(in, to, "not-after", 3);
+        put_limit(in, to, "not-after", LATE);
 }
 
 /* Adds a certificate and its signature. Mostly the issuer is the key with the number `place`, and the subject
@@ -244,38 +245,38 @@ static void put_certificate(struct input *in, struct text *to, unsigned place)
     static struct text message;
     unsigned issuer = mostly(in, place, KEYS);
     message.length = 0;
-    begin(&message, "cert");
-    begin(&message, "issuer");
+    begin_list(&message, "cert");
+    begin_list(&message, "issuer");
     put_principal(in, &message, issuer);
-    end(&message);
+    end_list(&message);
     put_subject(in, &message, mostly(in, place + 1, KEYS));
     put_fields(in, &message);
-    end(&message);
+    end_list(&message);
     put(to, message.octets, message.length);
-    begin(to, "signature");
-    put_hash(to, &message, mostly(in, 0, 2));
+    begin_list(to, "signature");
+    put_hash(to, &message, mostly(in, BY_SHA256, 2)); /* (a digest by SHA-1 is left out) */
     put_principal(in, to, mostly(in, issuer, KEYS));
     if (below(in, 4) < 3)
         put_word(to, "sig");
     else
         put(to, "(3:sig1:x)", 10);
-    end(to);
+    end_list(to);
 }
 
 /* Adds an entry of the access list, mostly for the key with the number 0, with which the chain begins. */
 static void put_entry(struct input *in, struct text *to)
 {
-    begin(to, "entry");
+    begin_list(to, "entry");
     if (mostly(in, 1, 2)) {
         put_principal(in, to, mostly(in, 0, KEYS));
     } else {
-        begin(to, "name");
+        begin_list(to, "name");
         put_principal(in, to, mostly(in, 0, KEYS));
         put_word(to, strings[below(in, 4)]);
-        end(to);
+        end_list(to);
     }
     put_fields(in, to);
-    end(to);
+    end_list(to);
 }
 
 /* In one of sixteen cases changes an octet of a text, or cuts off its end: not if the input is used up, which would be the same each time. */
@@ -310,27 +311,26 @@ static void make_request(struct input *in, struct parts *parts)
     for (unsigned place = 0; place < count; place++)
         put_string(&parts->request, parts->words[place].octets, parts->words[place].length);
     if (count != 1)
-        end(&parts->request);
+        end_list(&parts->request);
 }
 
-/* Makes all parts of a question from the input. There are mostly up to 3 certificates, and at most 17, from key 0 on. The client's key is
- * mostly the subject of the last one. */
+/* Makes all parts of a question. There are mostly up to 3 certificates, at most 17, from key 0 on. The key that asks is mostly the last subject. */
 static void make_parts(struct input *in, struct parts *parts)
 {
     unsigned certificates = mostly(in, below(in, 4), 18), entries = 1 + below(in, 4), moment = mostly(in, 0, MOMENTS);
     question_parts = parts;
     make_request(in, parts);
     parts->list.length = parts->sequence.length = parts->key.length = parts->moment.length = 0;
-    begin(&parts->list, "acl");
+    begin_list(&parts->list, "acl");
     while (entries--)
         put_entry(in, &parts->list);
-    end(&parts->list);
-    begin(&parts->sequence, "sequence");
+    end_list(&parts->list);
+    begin_list(&parts->sequence, "sequence");
     for (unsigned key = 0; key < KEYS && !below(in, 3); key++)
         put_key(&parts->sequence, key);
     for (unsigned place = 0; place < certificates; place++)
         put_certificate(in, &parts->sequence, place);
-    end(&parts->sequence);
+    end_list(&parts->sequence);
     put_key(&parts->key, mostly(in, certificates, KEYS));
     put_word(&parts->moment, moments[moment].date);
     parts->seconds = moments[moment].seconds;

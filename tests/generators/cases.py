@@ -1,4 +1,4 @@
-"""Cases with a chain of certificates, most of which join, and rows that stand apart."""
+"""Cases with a chain of certificates, most of which join (the subject of one is the issuer of the next), and rows, which accept their signatures."""
 import hashlib
 import random
 from dataclasses import dataclass, field
@@ -68,7 +68,7 @@ class Builder:
         return (word("hash"), Atom(algorithm), Atom(digest), *uri)
 
     def subject(self, subject: Subject, issuer: Value | None = None) -> Value:
-        """A subject as it is written. Where its principal is the issuer's, the name may be relative."""
+        """A subject as it is written. If its key is that of the issuer, a name may be relative: `(name NAME ..)` without a principal."""
         if not subject.names:
             return self.principal(subject.key)
         relative = subject.key == issuer and self.rng.random() < 0.4
@@ -78,7 +78,7 @@ class Builder:
     def window(self) -> list[Value]:
         """The fields of a window that mostly contains the moment: some of `(not-before ..)` and `(not-after ..)`, or `(valid ..)` with them."""
         limits: list[Value] = []
-        earlier, later = [it for it in MOMENTS if it <= self.moment], [it for it in MOMENTS if it >= self.moment]
+        earlier, later = [date for date in MOMENTS if date <= self.moment], [date for date in MOMENTS if date >= self.moment]
         for head, fitting in (("not-before", earlier), ("not-after", later)):
             if self.rng.random() < 0.25:
                 limits.append((word(head), Atom(self.rng.choice(MOMENTS if self.by_chance(0.2) else fitting))))
@@ -118,7 +118,7 @@ class Builder:
         self.hashed += [issuer] if principal != issuer else []
         # (a subject that is a name needs a certificate that defines it, a key one that passes a right on; by chance it is the other way)
         defines = bool(subject.names) != self.wrong()
-        following = self.next_subject(0.15 if defines else 0.35)
+        following = self.next_subject(name_chance=0.15 if defines else 0.35)
         ignored = ("display", "issuer-info", "subject-info", "comment")
         version: list[Value] = [(word("version"), Atom(b"0"))] if self.by_chance(0.08) else []
         subject_field: Value = (word("subject"), self.subject(following, issuer))
@@ -126,7 +126,7 @@ class Builder:
             name = subject.names[0] if subject.names and not self.wrong() else self.rng.choice(NAMES)
             needed = [*version, (word("issuer"), (word("name"), principal, Atom(name))), subject_field]
             fields = self.fields(*needed, propagate=self.by_chance(0.01), ignored=ignored)
-            following.names += subject.names[1:]
+            following.names += subject.names[1:]  # (the definition replaces the first name)
         else:
             needed = [*version, (word("issuer"), principal), subject_field, self.tag()]
             fields = self.fields(*needed, propagate=not is_last and not self.by_chance(0.04), ignored=ignored)
@@ -141,7 +141,7 @@ class Builder:
         octets = canonical(certificate)
         algorithm = self.rng.choice((b"sha1", b"sha256", b"sha512"))
         digest = DIGESTS[algorithm](octets if not self.by_chance(0.015) else b"").digest()
-        signer = self.principal(key if not self.by_chance(0.015) else self.rng.choice(self.keys), 0.15)
+        signer = self.principal(key if not self.by_chance(0.015) else self.rng.choice(self.keys), by_hash=0.15)
         values: tuple[Value, ...] = (Atom(b"sig"), (Atom(b"rsa"), Atom(b"\x01\xff")), Atom(b"sig", b"h"), ())
         value = self.rng.choice(values)
         self.items.append(certificate)
@@ -155,10 +155,10 @@ class Builder:
     def chain(self, subject: Subject, length: int) -> Subject:
         """Adds certificates from a subject on. Returns the subject that the chain ends with."""
         for left in range(length, 0, -1):
-            subject = self.certificate(subject, left == 1)
-        # what names are left is mostly defined. Each definition may leave more of them, so the items have a bound
+            subject = self.certificate(subject, is_last=left == 1)
+        # (names that are left are mostly defined. Each definition may leave more of them, so the items have a bound)
         while subject.names and not self.by_chance(0.1) and len(self.items) < 24:
-            subject = self.certificate(subject, True)
+            subject = self.certificate(subject, is_last=True)
         return subject
 
     def items_with_keys(self) -> list[Value]:
@@ -173,20 +173,20 @@ class Builder:
 
     def entries(self, subject: Subject) -> list[Value]:
         """The entry of the chain, and others that nearly match. To be called after `chain`: an entry that certificates follow must delegate."""
-        entries = [self.entry(subject, bool(self.items))]
+        entries = [self.entry(subject, propagate=bool(self.items))]
         for _ in range(self.rng.choice((0, 0, 0, 0, 1, 1, 1, 2, 2, 12))):
-            other = subject if self.rng.random() < 0.7 else self.next_subject(0.3)
-            entries.insert(self.rng.randrange(len(entries) + 1), self.entry(other, self.rng.random() < 0.7))
+            other = subject if self.rng.random() < 0.7 else self.next_subject(name_chance=0.3)
+            entries.insert(self.rng.randrange(len(entries) + 1), self.entry(other, propagate=self.rng.random() < 0.7))
         return entries
 
     def entry(self, subject: Subject, propagate: bool) -> Value:
-        """An entry for a subject, with a tag that mostly contains the request. `propagate`: it delegates, but for a mistake."""
+        """An entry for a subject, with a tag that mostly contains the request. It delegates if `propagate` is true and no step goes wrong."""
         fields = self.fields(self.tag(), propagate=propagate and not self.wrong(), ignored=("comment",))
         return (word("entry"), self.subject(subject), *fields)
 
     def case(self) -> Value:
         """The whole case: an entry and a chain from it to the key that asks, mostly. To be called once."""
-        subject = self.next_subject(0.3)
+        subject = self.next_subject(name_chance=0.3)
         last = self.chain(subject, self.rng.choice(self.lengths))
         entries = self.entries(subject) if not self.by_chance(0.02) else []
         if self.by_chance(0.1):

@@ -21,8 +21,8 @@ STRINGS = (b"", b"ftp", b"x) (at ", b"1:a", b"\x00\xff", b"(", b"a.o read")
 @dataclass(frozen=True)
 class GuardQuestion:
     """A question to a guard: `guard decide`, `guard explain` or `guard reduce`, the list, the parts, the rows that the verifier looks into, the
-    policy and the limits. Where there are strings of the request or seconds of the moment, they stand in the place of the text. `oddity` names what
-    is misuse in the calls, or which pointer is null that may be. Mostly it is empty."""
+    policy and the limits. If `strings` or `seconds` is not None, it is the request or the moment, in place of the text. `oddity` names what is misuse
+    in the calls, or a null pointer that is allowed. Mostly it is empty."""
 
     command: str
     acl: bytes
@@ -38,7 +38,7 @@ class GuardQuestion:
     oddity: str = ""
 
 
-# All that is asked in a case.
+# All kinds of questions.
 Asked = Union[Question, GuardQuestion, Call, StringQuestion]
 
 
@@ -58,7 +58,7 @@ def guard_question(rng: random.Random) -> GuardQuestion:
 
 
 def limits_for(wish: str, rng: random.Random) -> Limits:
-    """Limits, some of them low by chance. No low limit is 0, since that stands for the usual limit."""
+    """Limits, some of them low by chance: about what a generated question needs. No low limit is 0, since that stands for the usual limit."""
     # (a low limit on nodes is below `few`: with 8 one decision in ten is of parts that as a case would be too large, and that the guard decides)
     few, chance = (8, 0.4) if wish == "decide" else (60, 0.15)
     return Limits(rng.randrange(1, 1200) if rng.random() < 0.05 else USUAL.octets, rng.randrange(1, 3) if rng.random() < 0.1 else USUAL.certificates,
@@ -67,8 +67,8 @@ def limits_for(wish: str, rng: random.Random) -> Limits:
 
 
 def with_oddity(question: GuardQuestion, rng: random.Random, oddity: str) -> GuardQuestion:
-    """The question with an oddity, the name of a row of MISUSES or ALLOWED. For four of them its policy or a limit is set wrong here. The others are
-    made in the calls (harness/guard_door.py). Its other limits become the usual ones."""
+    """The question with an oddity, the name of a row of MISUSES or ALLOWED (model/guard.py). For four of them its policy or a limit is set wrong
+    here. harness/guard_door.py makes the calls with the others. The other limits become the usual ones."""
     policy = rng.choice((2, 3, 255, 2**31, 2**32 - 1)) if oddity == NO_POLICY else question.policy
     octets = rng.choice((HIGHEST.octets + 1, 2**63, 2**64 - 1)) if oddity == OCTETS_ABOVE else USUAL.octets
     nodes = rng.choice((HIGHEST.nodes + 1, 2**63, 2**64 - 1)) if oddity == NODES_ABOVE else USUAL.nodes
@@ -78,7 +78,7 @@ def with_oddity(question: GuardQuestion, rng: random.Random, oddity: str) -> Gua
 
 def part_text(value: Value, rng: random.Random) -> bytes:
     """A text of a part. By chance its value or the text is changed, or a second value follows."""
-    text = maybe_wrong_text(maybe_changed(value, rng, 0.03), rng, 0.03)
+    text = maybe_wrong_text(maybe_changed(value, rng, chance=0.03), rng, wrong=0.03)
     return text + canonical(value) if rng.random() < 0.01 else text
 
 
@@ -91,5 +91,5 @@ def strings_of(request: Value, rng: random.Random) -> tuple[bytes, ...] | None:
     is_list_of_one = len(members) == 1 and isinstance(request, tuple)
     if is_list_of_one or rng.random() < 0.5:
         return None
-    strings = [it.body for it in members if isinstance(it, Atom) and it.hint is None]
+    strings = [member.body for member in members if isinstance(member, Atom) and member.hint is None]
     return tuple(strings) if len(strings) == len(members) else None

@@ -1,4 +1,5 @@
-"""Values and texts that differ a little from a given one."""
+"""Values and texts that differ a little from a given one. LISTS are put anywhere. NEARLY has, for a head, what a list with this head is replaced by,
+mostly a faulty one. FIRST has, for a head, the faulty members that are put behind it."""
 import random
 import re
 from collections.abc import Callable
@@ -19,13 +20,11 @@ def values_of(text: str) -> list[Value]:
     return list(members)
 
 
-# what is put into any list
 LISTS = values_of("""
     () (()) ([h]a) (a ()) (online crl) (version "0") (version "1") (uri x) (propagate) (valid) (not-before "2024-01-01_00:00:00")
     (not-after "2024-13-01_00:00:00") (not-after) (tag (*)) (comment [h]c) (display) (issuer-info ()) (do hash sha1) (k-of-n) (keyholder a)
     (name bob) (signature) (public-key (test a)) (* set) (*) (* numeric) (policy strict) (policy open)""")
 
-# what a list of this head is replaced by: forms that have a fault, and some that have none
 NEARLY = {
     b"public-key": values_of("""
         (public-key (test a) (uri)) (public-key (test a) (uri) x) (public-key (test a) x) (public-key) (public-key ()) (public-key ([h]test a))
@@ -83,7 +82,7 @@ NEARLY = {
 }
 # heads that stand once in a case, or that seldom show
 RARE = (b"request", b"request", b"entry", b"do", b"at", b"version")
-# what is put behind the head of a list, where it is read first: faults that seldom come by chance
+# (a member behind the head is read first: so a fault there comes before others)
 FIRST = {
     b"sequence": values_of("(do) (do ()) (do [h]hash sha1) (do sign sha1) (do hash md5) (do hash [h]sha1)"),
     b"acl": values_of('(version "1") (version [h]"0")'),
@@ -143,14 +142,14 @@ def replaced(value: Value, path: Path, parts: tuple[Value, ...]) -> Value:
 
 
 def with_near_form(value: Value, rng: random.Random) -> Value:
-    """A value in which one list is replaced by a form of NEARLY for its head. If no list has such a head, some part is replaced by one of LISTS."""
+    """A value in which one list becomes one that NEARLY has for its head. If no list has such a head, some part is replaced by one of LISTS."""
     heads = [(path, head) for path in places(value) if (head := head_of(part(value, path))) in NEARLY]
     if not heads:
         return replaced(value, some_place(value, rng), (rng.choice(LISTS),))
     # (each head as often as another one, however often the value has it, and those of RARE more often)
     distinct = sorted({head for _, head in heads if head})
-    head = rng.choice(distinct + [it for it in RARE if it in distinct])
-    path = rng.choice([path for path, it in heads if it == head])
+    head = rng.choice(distinct + [rare for rare in RARE if rare in distinct])
+    path = rng.choice([path for path, other in heads if other == head])
     return replaced(value, path, (rng.choice(NEARLY[head]),))
 
 
@@ -160,15 +159,15 @@ def with_faulty_first(value: Value, rng: random.Random) -> Value | None:
     if not pairs:
         return None
     # each member as often as another one, also those of lists of which there are few
-    member = rng.choice(sorted({it for _, it in pairs}, key=canonical))
-    path = rng.choice([path for path, it in pairs if it == member])
+    member = rng.choice(sorted({member for _, member in pairs}, key=canonical))
+    path = rng.choice([path for path, other in pairs if other == member])
     old = part(value, path)
     assert isinstance(old, tuple)
     return replaced(value, path, ((old[0], member, *old[1:]),))
 
 
 def mutated(value: Value, rng: random.Random) -> Value:
-    """A value that mostly differs from the given one at one place. By chance a faulty member is put behind a head, a list becomes a form of NEARLY,
+    """A value that mostly differs from the given one at one place. By chance a faulty member is put behind a head, a list becomes one of NEARLY,
     or any part is changed: left out, doubled, replaced, followed by one of LISTS, put into a list, or changed inside."""
     kind = rng.random()
     if kind < 0.15 and (faulty := with_faulty_first(value, rng)):
@@ -214,19 +213,19 @@ def changed_list(old: tuple[Value, ...], rng: random.Random) -> Value:
 
 
 def changed_octets(text: bytes, rng: random.Random) -> bytes:
-    """A text with one octet changed, dropped, doubled, put in or swapped with the next one."""
+    """A text in which one octet is changed, dropped, doubled, put in or swapped with the next one."""
     at = rng.randrange(len(text) + 1)
     before, old, rest, new = text[:at], text[at:at + 1], text[at + 1:], bytes([rng.choice(OCTETS)])
     return before + rng.choice((new + rest, rest, 2 * old + rest, new + old + rest, rest[:1] + old + rest[1:]))
 
 
 def changed_length(text: bytes, rng: random.Random) -> bytes:
-    """A text with a length off by one, larger by 10 to 10^19, with a leading zero or a space behind it. Without a length: with an octet changed."""
+    """A text with a string's length off by one, larger by 10 to 10^19, or with a 0 before or a space behind. Without one: with an octet changed."""
     lengths = list(LENGTH.finditer(text))
     if not lengths:
         return changed_octets(text, rng)
     digits = rng.choice(lengths)
-    length = int(digits[0][:9])  # (SNIPPETS have longer ones)
+    length = int(digits[0][:9])  # (SNIPPETS have longer ones, whose other digits do not matter)
     new = rng.choice((b"%d" % (length + 1), b"%d" % max(0, length - 1), b"0" + digits[0], b"%d" % (length + 10**rng.choice((1, 2, 9, 19))),
                       digits[0] + b" "))
     return text[:digits.start()] + new + text[digits.end():]

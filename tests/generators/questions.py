@@ -20,8 +20,8 @@ LENGTHS = (9, 10, 63, 64, 65, 99, 100, 255, 256, 1000, 4096)
 
 
 def question(seed: str, number: int) -> Asked:
-    """The question of a seed and a number. Of each EVERY numbers the first are those of MAKERS, and the last those of long texts. Others are of some
-    kind by chance: the number beside a kind below is the share of all kinds up to it."""
+    """The question of a seed and a number. Of each EVERY numbers the first are those of MAKERS (seldom.py), and the last those of long texts. Others
+    are of some kind by chance: the number beside a kind below is the share of all kinds up to it."""
     rng = random.Random(f"{seed}/{number}")
     at = number % rare.EVERY
     if at < len(MAKERS):
@@ -40,12 +40,12 @@ def question(seed: str, number: int) -> Asked:
     if kind < 0.3:
         return Question(rng.choice(CONVERSIONS), maybe_wrong_text(value(rng), rng))
     if kind < 0.5:
-        return Question("intersect", maybe_wrong_text(maybe_changed((Atom(b"intersect"), *tags.pair(rng)), rng, 0.35), rng))
+        return Question("intersect", maybe_wrong_text(maybe_changed((Atom(b"intersect"), *tags.pair(rng)), rng, chance=0.35), rng))
     return guard_question(rng) if kind < 0.65 else case_question(rng)
 
 
 def long_question(rng: random.Random, at: int) -> Question:
-    """A text at the limit of octets, for a command or as rows. The place `at` says which text and which command."""
+    """A text at the limit of octets, for a command or as rows. `at`, from 0 to below LONG_QUESTIONS, says which text and which command."""
     commands = (*COMMANDS, "rows")
     text = rare.LONG[at // len(commands)](rng)
     command = commands[at % len(commands)]
@@ -60,7 +60,7 @@ def limit_question(rng: random.Random) -> Question:
     if kind < 3:
         return Question("intersect", (rare.large_tags, rare.too_many_nodes, rare.deep_tags)[kind](rng))
     if kind < 6:
-        return Question(rng.choice(OF_CASES[:3]), rare.large_case(rng))
+        return Question(rng.choice(OF_CASES[:3]), rare.large_case(rng))  # (a command that takes no rows apart)
     text = rare.deep(rng)
     text = spellings.in_braces(text, rng) if rng.random() < 0.5 else text
     if rng.random() < 0.3:
@@ -90,21 +90,21 @@ def string_question(rng: random.Random) -> StringQuestion:
 def case_question(rng: random.Random) -> Question:
     """A command on a case, or on a case and rows apart. By chance either is changed."""
     command = rng.choice(OF_CASES)
-    case = maybe_changed(Builder(rng).case(), rng, 0.35)
+    case = maybe_changed(Builder(rng).case(), rng, chance=0.35)
     if command != "check_accepted":
-        return Question(command, maybe_wrong_text(case, rng, 0.05))
+        return Question(command, maybe_wrong_text(case, rng, wrong=0.05))
     # (a case that was changed may have lost the list of its rows)
     if not isinstance(case, tuple) or len(case) < 3 or not isinstance(case[2], tuple):
-        return Question(command, maybe_wrong_text(case, rng, 0.05), b"(accepted)")
+        return Question(command, maybe_wrong_text(case, rng, wrong=0.05), b"(accepted)")
     case, rows = with_rows_apart(case, rng)
-    return Question(command, maybe_wrong_text(case, rng, 0.05), maybe_wrong_text(maybe_changed(rows, rng, 0.2), rng, 0.1))
+    return Question(command, maybe_wrong_text(case, rng, wrong=0.05), maybe_wrong_text(maybe_changed(rows, rng, chance=0.2), rng, wrong=0.1))
 
 
 def value(rng: random.Random, depth: int = 3) -> Value:
     """A value by chance: a string, or a list of at most four values, with at most `depth` lists inside one another. Any part may be one of LISTS
     instead, whose own lists are not counted. The whole value, for which `depth` is 3, may be a tag instead."""
     if depth == 3 and rng.random() < 0.1:
-        return tags.tag(rng, 3)
+        return tags.tag(rng, depth=3)
     kind = rng.random()
     if kind < 0.1:
         return rng.choice(LISTS)

@@ -22,7 +22,7 @@ def too_long_in_braces(rng: random.Random) -> bytes:
 
 def text_that_grows(rng: random.Random) -> bytes:
     """A text within the limit whose canonical form has one octet too many, or just as many as are read: 4 octets `[a]b` are 8 there. The octets `b`
-    at the end lengthen the last of these strings."""
+    at the end lengthen the last of these strings: 131,070 * 8 + 15 + 2 are 1,048,577, one too many."""
     return b"(" + 131_071 * b"[a]b" + (7 if rng.randrange(8) else 6) * b"b" + b")"
 
 
@@ -39,7 +39,7 @@ def pair_near_limit(rng: random.Random) -> tuple[Value, Value]:
 
 
 def large_tags(rng: random.Random) -> bytes:
-    """The text of an intersection of two tags at the limit of the product."""
+    """The text of an intersection of two tags whose product of nodes is at the limit, or near it."""
     return canonical((Atom(b"intersect"), *pair_near_limit(rng)))
 
 
@@ -80,7 +80,7 @@ class GrowingTags(LargeTags):
 
     def next_subject(self, name_chance: float) -> Subject:
         """A key, whatever `name_chance` is, so that each certificate is one of an authorization."""
-        return super().next_subject(0)
+        return super().next_subject(name_chance=0)
 
 
 def large_case(rng: random.Random) -> bytes:
@@ -97,10 +97,10 @@ def deep(rng: random.Random) -> bytes:
 def deep_tags(rng: random.Random) -> bytes:
     """The text of an intersection of deep tags, whose answer may have more than 64 lists inside one another."""
     lists: Value = Atom(b"a")
-    for _ in range(rng.choice((rng.randrange(1, 64), 60, 62))):
+    for _ in range(rng.choice((rng.randrange(1, 64), 60, 62))):  # (63 of the 64 lists that are read may be in a tag)
         lists = (Atom(b"f"), lists)
     sets: Value = (Atom(b"*"), Atom(b"prefix"), Atom(b"a"))
-    for _ in range(rng.choice((rng.randrange(1, 32), 30))):
+    for _ in range(rng.choice((rng.randrange(1, 32), 30))):  # (each step puts the tag into two lists)
         others: tuple[Value, ...] = ((Atom(b"f"), (Atom(b"*"),)), (Atom(b"f"),), (Atom(b"*"), Atom(b"set")), Atom(b"f"))
         members = [(Atom(b"f"), sets), rng.choice(others)]
         rng.shuffle(members)

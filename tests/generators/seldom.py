@@ -1,4 +1,4 @@
-"""What seldom comes by chance. Each has a number of its own, so that no seed leaves it out."""
+"""Questions that seldom come by chance. Each has a number of its own, so that no seed leaves it out. A maker makes one, by random numbers."""
 import hashlib
 import random
 from collections.abc import Callable, Iterator
@@ -50,15 +50,15 @@ CALLS = [replace(it, texts=2 * it.texts) if it.number is None else it for it in 
     Call(number, ((False, 0),), (False, ROOM)) for number in (len(COMMANDS), 2**32 - 1)]
 
 
-def everything_nearly() -> Iterator[Value]:
-    """Variants of EVERYTHING, each with one change: a form of NEARLY in the place of a structure, or a faulty member of FIRST behind a head."""
+def variants_of_everything() -> Iterator[Value]:
+    """Variants of EVERYTHING, each with one change: what NEARLY has for a head, a faulty member of FIRST behind it, a large tag, or no entries."""
     for path in places(EVERYTHING):
         structure = part(EVERYTHING, path)
         members = structure if isinstance(structure, tuple) else ()
         head = head_of(structure) or b""
-        yield from (replaced(EVERYTHING, path, (form,)) for form in NEARLY.get(head, ()))
+        yield from (replaced(EVERYTHING, path, (other,)) for other in NEARLY.get(head, ()))
         yield from (replaced(EVERYTHING, path, ((*members[:1], member, *members[1:]),)) for member in FIRST.get(head, ()))
-    # the tag of the entry with too many nodes, and a list without entries
+    # (the path of the entry's tag, and that of the list)
     yield replaced(EVERYTHING, (1, 2, 3, 1), (many_strings(b"set", 1025),))
     yield replaced(EVERYTHING, (1,), ((Atom(b"acl"),),))
 
@@ -74,12 +74,12 @@ def case_of_two_tags(first: Value, second: Value, request: Value) -> Value:
 
 
 def case_of_two_lists(first: int, second: int) -> Value:
-    """A case in which two tags with so many nodes are intersected."""
+    """A case in which two tags, lists of equal strings with so many nodes, are intersected. The request is the longer list."""
     return case_of_two_tags(many_strings(b"list", first), many_strings(b"list", second), many_strings(b"list", max(first, second)))
 
 
 def too_deep_intersection() -> Value:
-    """`(intersect A B)` of two tags whose intersection is deeper than a text that is read may be."""
+    """`(intersect A B)` of two tags, each 60 lists deep. Their intersection has the lists of A in the sets of B: so it is too deep to be read."""
     lists, sets = b"(f " * 60 + b"a" + 60 * b")", b"(* set (f " * 30 + b"(* prefix a)" + 30 * b") (f))"
     return advanced.read(b"(intersect %s %s)" % (lists, sets))
 
@@ -88,8 +88,8 @@ def guard_question_of(case: Value, wish: str) -> GuardQuestion:
     """The question to a guard that has the parts of a case, by the default limits and the strict policy. `wish` is one of WISHES."""
     assert isinstance(case, tuple)
     acl, rows, sequence = map(canonical, case[1:4])
-    key, request, moment = (canonical(it[1]) for it in case[4:7] if isinstance(it, tuple))
-    return GuardQuestion(f"guard {wish}", acl, sequence, key, request, moment, rows, None, None, STRICT)
+    key, request, moment = (canonical(part[1]) for part in case[4:7] if isinstance(part, tuple))
+    return GuardQuestion(f"guard {wish}", acl, sequence, key, request, moment, rows, strings=None, seconds=None, policy=STRICT)
 
 
 # ---- makers
@@ -101,17 +101,17 @@ def always(question: Asked) -> Maker:
 
 
 def to_command(command: str, value: Value) -> Maker:
-    """A maker of a command and some text of a value. For `check_accepted` there are no rows."""
+    """A maker of a command and a text of a value, in a form by chance. For `check_accepted` the list of rows is empty."""
     return lambda rng: Question(command, spellings.text_of(value, rng), NO_ROWS if command == "check_accepted" else b"")
 
 
 def to_some_command(text: bytes, is_braced: bool = False) -> Maker:
-    """A maker of some command and a text. `is_braced`: the text is in transport form."""
+    """A maker of some command and a text, which is put into transport form if `is_braced`."""
     return lambda rng: Question(rng.choice(COMMANDS), spellings.in_braces(text, rng) if is_braced else text)
 
 
 def beside_rows(case: Value, rows: bytes, is_braced: bool = False) -> Maker:
-    """A maker of a case and a text of rows. `is_braced`: that text is in transport form."""
+    """A maker of a case and a text of rows, which is put into transport form if `is_braced`."""
     return lambda rng: Question("check_accepted", spellings.text_of(case, rng), spellings.in_braces(rows, rng) if is_braced else rows)
 
 
@@ -130,7 +130,7 @@ def makers_of_texts() -> Iterator[Maker]:
 
 def makers_of_cases() -> Iterator[Maker]:
     """Makers of cases with a fault, of cases beside rows with a fault, and of tags whose intersection is too large or nearly so."""
-    for number, value in enumerate(everything_nearly()):
+    for number, value in enumerate(variants_of_everything()):
         yield to_command(OF_CASES[number % len(OF_CASES)], value)
     for text in ROWS:
         yield beside_rows(EVERYTHING, text)
@@ -138,14 +138,14 @@ def makers_of_cases() -> Iterator[Maker]:
     for sizes in ((1000, 1000), (1000, 1001), (1001, 1001)):
         yield to_command("intersect", (Atom(b"intersect"), *(many_strings(b"list", size) for size in sizes)))
         yield from (to_command(command, case_of_two_lists(*sizes)) for command in OF_CASES[:3])
-    yield from (to_command("intersect", it) for it in (*PAIRS, too_deep_intersection()))
+    yield from (to_command("intersect", pair) for pair in (*PAIRS, too_deep_intersection()))
 
 
 def makers_of_guards() -> Iterator[Maker]:
     """Makers of questions to guards: at limits and past them, with tags that are too large, with other parts, and with an oddity in the calls."""
     for wish in WISHES:
         question = guard_question_of(case_of_two_lists(4, 4), wish)
-        # (the product of nodes is 16. The work is 392: each of 4 nodes costs 32, 15 times 4 nodes, 3 nodes without the head, and 3 octets)
+        # (the product of nodes is 16. The work is 392: each of the first tag's 4 nodes costs 32 + 15 * 4 + 3 nodes without the head + 3 octets)
         yield from (always(replace(question, limits=Limits(nodes=nodes))) for nodes in (15, 16))
         yield from (always(replace(question, limits=Limits(work=work))) for work in (391, 392))
         # (`entry 1 grants` and the end of its line are 15 octets)

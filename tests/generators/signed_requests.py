@@ -129,7 +129,7 @@ def hash_of(key: bytes) -> str:
 
 
 def unsigned_fields(request: Request) -> Fields:
-    """The fields of a request, with that of the key, without Signature-Input and Signature."""
+    """The fields of a request without Signature-Input and Signature: those of `fields`, and X-Spki-Public-Key."""
     keys = request.keys if request.keys is not None else (in_braces(request.key.text),)
     return [*request.fields, *(("X-Spki-Public-Key", key) for key in keys)]
 
@@ -200,9 +200,9 @@ WITH_ACCEPT = Request(fields=[("Accept", "text/html")], components=(*PLAIN, "acc
 WITH_URI = Request(components=("@method", "@authority", "@target-uri", KEY))
 
 
-def valid() -> None:
+def valid_requests() -> None:
     """Requests that are valid."""
-    more = [f"x-{number}" for number in range(27)]
+    more = [f"x-{number}" for number in range(27)]  # (with the 5 of PLAIN these are 32 components, as many as are allowed)
     for name, request in {
         "Ed25519": GET, "ECDSA": Request(key=P256), "ECDSA with P-384": Request(key=P384), "RSA": Request(key=RSA), "target-uri": WITH_URI,
         "ECDSA with P-384 and a body": replace(POST, key=P384), "a body with its digest": POST,
@@ -264,10 +264,10 @@ def changed_requests() -> None:
 
 def changed_bodies() -> None:
     """Bodies and digests that are changed."""
-    other = [digest(BODY + "!"), ("Content-Length", "18")]
+    digest_of_other = [digest(BODY + "!"), ("Content-Length", "18")]
     row("another body", "other-digest", replace(POST, body='{"hello": "wurld"}'), signed(POST))
     row("no body any more", "other-digest", replace(POST, body=""), signed(POST))
-    row("another body with its digest", "invalid-signature", replace(POST, fields=other, body=BODY + "!"), signed(POST))
+    row("another body with its digest", "invalid-signature", replace(POST, fields=digest_of_other, body=BODY + "!"), signed(POST))
     row("a digest taken away", "absent-field", replace(POST, fields=[]), signed(POST))
     row("a digest not covered", "uncovered-field", replace(POST, components=PLAIN))
     row("a digest twice", "repeated-field", replace(POST, fields=[digest(BODY), digest("")]), signed(POST))
@@ -328,11 +328,11 @@ def changed_fields() -> None:
 def changed_inputs() -> None:
     """`Signature-Input` and `Signature` that are changed, or that are not those of the profile, and beside them one that is valid."""
     fields = signed(GET)
-    text, valid_signature = (value for _, value in fields)
+    text, valid_signature = (value for _, value in fields)  # (`text` is Signature-Input of GET, which the rows change)
     bare = text.removeprefix("spki=")
 
-    def sent(name: str, gives: str, changed: str, signature: str = valid_signature) -> None:
-        """Adds a row in which GET has Signature-Input `changed`, and as Signature `signature`: by default its own."""
+    def add_row(name: str, gives: str, changed: str, signature: str = valid_signature) -> None:
+        """Adds a row in which GET has the Signature-Input `changed`, and the Signature `signature`, by default the valid one."""
         row(name, gives, GET, [("Signature-Input", changed), ("Signature", signature)])
 
     row("no signature", "absent", GET, [])
@@ -341,14 +341,14 @@ def changed_inputs() -> None:
     row("Signature-Input alone", "malformed", GET, fields[:1])
     row("Signature in two lines", "repeated-field", GET, [*fields, fields[1]])
     row("Signature-Input in two lines", "repeated-field", GET, [*fields, fields[0]])
-    sent("a second signature", "two-signatures", f"{text}, a={bare}", f"{valid_signature}, a=:AAAA:")
-    sent("a second signature of the same label", "two-signatures", f"{text},{text}", f"{valid_signature},{valid_signature}")
-    sent("a second value of Signature alone", "two-signatures", text, f"{valid_signature}, spki=:AAAA:")
-    sent("a signature of another label before it", "other-label", f"a={bare}, {text}", f"a=:AAAA:, {valid_signature}")
-    sent("another label", "other-label", f"sig1={bare}", valid_signature.replace("spki", "sig1"))
-    sent("labels that differ", "other-label", text, valid_signature.replace("spki", "spkj"))
-    sent("an empty Signature-Input", "malformed", "")
-    sent("an empty Signature", "malformed", text, "")
+    add_row("a second signature", "two-signatures", f"{text}, a={bare}", f"{valid_signature}, a=:AAAA:")
+    add_row("a second signature of the same label", "two-signatures", f"{text},{text}", f"{valid_signature},{valid_signature}")
+    add_row("a second value of Signature alone", "two-signatures", text, f"{valid_signature}, spki=:AAAA:")
+    add_row("a signature of another label before it", "other-label", f"a={bare}, {text}", f"a=:AAAA:, {valid_signature}")
+    add_row("another label", "other-label", f"sig1={bare}", valid_signature.replace("spki", "sig1"))
+    add_row("labels that differ", "other-label", text, valid_signature.replace("spki", "spkj"))
+    add_row("an empty Signature-Input", "malformed", "")
+    add_row("an empty Signature", "malformed", text, "")
     for name, changed in {
         "no list of components": "spki;created=1", "text behind the parameters": text + " x", "a space in the list": text.replace("(", "( "),
         "a space behind a semicolon": text.replace(";expires", "; expires"), "a space before a semicolon": text.replace(";expires", " ;expires"),
@@ -358,14 +358,14 @@ def changed_inputs() -> None:
         "a list that does not end": text.partition(")")[0], "a string that does not end": text[:-1],
         "a name of a parameter in capitals": text.replace(";alg", ";Alg"),
         # (the others are those of PLAIN)
-        "33 components": text.replace('("', "(" + "".join(f'"x-{it}" ' for it in range(28)) + '"'),
+        "33 components": text.replace('("', "(" + "".join(f'"x-{number}" ' for number in range(28)) + '"'),
         "a Signature-Input of over 8,192 octets": text.replace('";alg', "A" * 8192 + '";alg'),
     }.items():
-        sent(name, "malformed", changed)
-    sent("components changed in order", "invalid-signature", text.replace('"@method" "@authority"', '"@authority" "@method"'))
-    sent("another value of a parameter", "invalid-signature", text.replace("sFzj", "tFzj"))
-    sent("an earlier end", "invalid-signature", text.replace(f"expires={NOW + 300}", f"expires={NOW + 299}"))
-    sent("parameters changed in order", "invalid-signature", text.replace(';tag="spki"', "").replace(";created", ';tag="spki";created'))
+        add_row(name, "malformed", changed)
+    add_row("components changed in order", "invalid-signature", text.replace('"@method" "@authority"', '"@authority" "@method"'))
+    add_row("another value of a parameter", "invalid-signature", text.replace("sFzj", "tFzj"))
+    add_row("an earlier end", "invalid-signature", text.replace(f"expires={NOW + 300}", f"expires={NOW + 299}"))
+    add_row("parameters changed in order", "invalid-signature", text.replace(';tag="spki"', "").replace(";created", ';tag="spki";created'))
     for name in PLAIN:
         row(f"{name} left out", "missing-component", Request(components=tuple(other for other in PLAIN if other != name)))
     row("no components", "missing-component", Request(components=()))
@@ -375,19 +375,20 @@ def changed_inputs() -> None:
         row(f"the component {name}", "unknown-component", Request(components=(*PLAIN, name)))
     param = parameters_of(GET).replace('"@query"', '"@query";name="a"')
     row("the component @query-param", "unknown-component", GET, signed(Request(parameters=param)))
-    sent("a component with a parameter", "unknown-component", text.replace('"@path"', '"@path";req'))
-    sent("a component in capitals", "unknown-component", text.replace("@path", "@PATH"))
-    sent("an empty component", "unknown-component", text.replace("@path", ""))
-    sent("the component signature", "unknown-component", text.replace("@path", "signature"))
+    add_row("a component with a parameter", "unknown-component", text.replace('"@path"', '"@path";req'))
+    add_row("a component in capitals", "unknown-component", text.replace("@path", "@PATH"))
+    add_row("an empty component", "unknown-component", text.replace("@path", ""))
+    add_row("the component signature", "unknown-component", text.replace("@path", "signature"))
 
 
 def changed_parameters() -> None:
     """Parameters that are changed, or that are not those of the profile."""
     for name in ("created", "expires", "nonce", "keyid", "alg", "tag"):
-        others = [it for it in parameters_of(GET).split(";") if not it.startswith(name)]
+        parameters = parameters_of(GET).split(";")
+        others = [parameter for parameter in parameters if not parameter.startswith(name)]
         row(f"{name} left out", "missing-parameter", Request(parameters=";".join(others)))
-        twice = parameters_of(GET) + ";" + next(it for it in parameters_of(GET).split(";") if it.startswith(name))
-        row(f"{name} twice", "parameter-twice", Request(parameters=twice))
+        twice = [*parameters, *(parameter for parameter in parameters if parameter.startswith(name))]
+        row(f"{name} twice", "parameter-twice", Request(parameters=";".join(twice)))
     row("a parameter more", "unknown-parameter", Request(parameters=parameters_of(GET) + ";a=1"))
     row("another tag", "other-tag", Request(tag="web-bot-auth"))
     row("a nonce of 15 characters", "bad-nonce", Request(nonce="sFzj0lYlX0wQm6Z"))
@@ -435,7 +436,7 @@ def changed_keys() -> None:
     row("a key that is not there and not covered", "missing-component", Request(components=PLAIN[:-1], keys=()))
     row("a key with an octet over ASCII", "bad-value", Request(keys=(f"{alice}\xe9",)), signed(GET))
     key, padded = in_base64(ALICE.text), in_base64(RSA.text)
-    assert padded.endswith("==")
+    assert padded.endswith("==")  # (so that there is padding to leave out, and bits behind the end)
     for name, value in {
         "a key without braces": key, "a key in advanced form": "(public-key (test a))", "a key with a space": "{%s }" % key,
         "a key without padding": "{%s}" % padded.rstrip("="), "a key in base64 of URLs": "{%s}" % key.replace("+", "-").replace("/", "_"),
@@ -449,7 +450,7 @@ def changed_keys() -> None:
         "a key of another algorithm": b"(10:public-key(3:dsa(1:p1:\5)))", "a key of P-521": P384.text.replace(b"P-384", b"P-521"),
         "a key with text behind it": ALICE.text + b"(1:a)", "a key and a comment": ALICE.text[:-1] + b"(7:comment1:a))",
         "a length with a zero in front": ALICE.text.replace(b"32:", b"032:"), "a key of 4,098 characters": rsa_key_of(3028),
-    }.items():
+    }.items():  # (4,096 characters are allowed. Braces and base64 have 4,094, or 4,098, characters)
         row(name, "bad-key", Request(keys=(in_braces(shown),), keyid=hash_of(shown)))
 
 
@@ -481,12 +482,12 @@ def rsa_key_of(octets: int) -> bytes:
 
 
 def row_of_signature(name: str, gives: str, sent: Request, parameters: str, value: str) -> None:
-    """Adds a row in which a request has these values of Signature-Input and, behind the label, of Signature."""
+    """Adds a row in which a request has the Signature-Input `parameters`, and the Signature `spki=` and `value`."""
     row(name, gives, sent, [("Signature-Input", parameters), ("Signature", f"spki={value}")])
 
 
 def octets_of(signature: str) -> bytes:
-    """The octets of a signature, by the value of the field Signature."""
+    """The octets of a signature, by the value of the field Signature, `spki=:BASE64:`."""
     return base64.b64decode(signature.removeprefix("spki=:").removesuffix(":"))
 
 
@@ -495,26 +496,26 @@ def changed_signatures() -> None:
     (_, text), (_, value) = signed(GET)
     octets = octets_of(value)
 
-    def sent(name: str, gives: str, changed: str) -> None:
-        """Adds a row in which GET has this value of Signature, behind its label."""
+    def add_row(name: str, gives: str, changed: str) -> None:
+        """Adds a row in which GET has the Signature `spki=` and `changed`."""
         row_of_signature(name, gives, GET, text, changed)
 
-    sent("an octet changed", "invalid-signature", f":{in_base64(bytes([octets[0] ^ 1]) + octets[1:])}:")
-    sent("a signature cut off", "invalid-signature", f":{in_base64(octets[:-1])}:")
-    sent("an octet more", "invalid-signature", f":{in_base64(octets + bytes(1))}:")
-    sent("no octets", "invalid-signature", "::")
-    sent("octets 00", "invalid-signature", f":{in_base64(bytes(64))}:")
+    add_row("an octet changed", "invalid-signature", f":{in_base64(bytes([octets[0] ^ 1]) + octets[1:])}:")
+    add_row("a signature cut off", "invalid-signature", f":{in_base64(octets[:-1])}:")
+    add_row("an octet more", "invalid-signature", f":{in_base64(octets + bytes(1))}:")
+    add_row("no octets", "invalid-signature", "::")
+    add_row("octets 00", "invalid-signature", f":{in_base64(bytes(64))}:")
     raised = (int.from_bytes(octets[32:], "little") + ORDER_25519).to_bytes(32, "little")
-    sent("s raised by the order", "invalid-signature", f":{in_base64(octets[:32] + raised)}:")
-    sent("a signature in quotes", "malformed", f'"{in_base64(octets)}"')
-    sent("no padding", "malformed", f":{in_base64(octets).rstrip('=')}:")
-    sent("base64 of URLs", "malformed", ":" + in_base64(b"\xff" * 64).replace("/", "_") + ":")
-    sent("a space in base64", "malformed", f":{in_base64(octets)[:8]} {in_base64(octets)[8:]}:")
-    sent("a line feed in base64", "malformed", f":{in_base64(octets)[:8]}\n{in_base64(octets)[8:]}:")
-    sent("no colon at the end", "malformed", f":{in_base64(octets)}")
-    sent("a parameter behind the signature", "malformed", f":{in_base64(octets)}:;a=1")
+    add_row("s raised by the order", "invalid-signature", f":{in_base64(octets[:32] + raised)}:")
+    add_row("a signature in quotes", "malformed", f'"{in_base64(octets)}"')
+    add_row("no padding", "malformed", f":{in_base64(octets).rstrip('=')}:")
+    add_row("base64 of URLs", "malformed", ":" + in_base64(b"\xff" * 64).replace("/", "_") + ":")
+    add_row("a space in base64", "malformed", f":{in_base64(octets)[:8]} {in_base64(octets)[8:]}:")
+    add_row("a line feed in base64", "malformed", f":{in_base64(octets)[:8]}\n{in_base64(octets)[8:]}:")
+    add_row("no colon at the end", "malformed", f":{in_base64(octets)}")
+    add_row("a parameter behind the signature", "malformed", f":{in_base64(octets)}:;a=1")
     digits = in_base64(octets).removesuffix("==")
-    sent("bits behind the end", "malformed", f":{digits[:-1]}{chr(ord(digits[-1]) + 1)}==:")
+    add_row("bits behind the end", "malformed", f":{digits[:-1]}{chr(ord(digits[-1]) + 1)}==:")
 
 
 def changed_ecdsa() -> None:
@@ -550,11 +551,11 @@ def changed_ecdsa() -> None:
 
 
 def main() -> None:
-    """Writes the table over the old one. The docstring of each function that adds rows precedes its rows there, as a remark."""
-    for rows in (valid, changed_requests, changed_bodies, changed_certificates, changed_fields, changed_inputs, changed_parameters, changed_keys,
-                 other_keys, changed_signatures, changed_ecdsa):
-        LINES.append(f"# {rows.__doc__}\n")
-        rows()
+    """Writes the table over the old one. The docstring of each function that adds rows, a single line, precedes its rows there as a remark."""
+    for add_rows in (valid_requests, changed_requests, changed_bodies, changed_certificates, changed_fields, changed_inputs, changed_parameters,
+                     changed_keys, other_keys, changed_signatures, changed_ecdsa):
+        LINES.append(f"# {add_rows.__doc__}\n")
+        add_rows()
     with open(os.path.join(os.path.dirname(os.path.realpath(__file__)), ROWS), "w", encoding="ascii") as file:
         file.write("# Signed requests, made by tests/generators/signed_requests.py, which says what each line is.\n\n" + "\n".join(LINES))
 

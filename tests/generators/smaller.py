@@ -2,6 +2,7 @@
 import time
 from collections.abc import Callable, Iterator
 from dataclasses import replace
+from itertools import chain
 from typing import Any
 
 from model import forms
@@ -18,7 +19,7 @@ LARGE = 20_000
 
 
 def smaller(question: Asked, shows: Callable[[Asked], bool], seconds: float = 20) -> Asked:
-    """A smaller question for which `shows` is true: each time the first candidate for which it is, until there is none or the time is over."""
+    """The question made smaller: replaced by the first of its candidates that still `shows` the difference, until there is none or time is over."""
     ends = time.monotonic() + seconds
     is_smaller = True
     while is_smaller:
@@ -47,7 +48,7 @@ def candidates(question: Asked) -> Iterator[Asked]:
 
 
 def smaller_parts(question: GuardQuestion) -> Iterator[GuardQuestion]:
-    """Questions to a guard with one string less or a shorter one, a moment nearer to 1970 or as a text, or the usual limits."""
+    """Questions to a guard with one string of the request less or a shorter one, a moment nearer to 1970 or as a text, or the usual limits."""
     if question.strings is not None:
         yield from (replace(question, strings=strings) for strings in without_one(question.strings))
         for number, string in enumerate(question.strings):
@@ -68,12 +69,11 @@ def smaller_texts(text: bytes) -> Iterator[bytes]:
     """Smaller texts: shorter ones of the same value or of one of `smaller_values`, unless the text is LARGE, and the text without some octets."""
     try:
         value = forms.read(text) if len(text) < LARGE else None
-    except FormFault:
+    except FormFault:  # (no value: then octets alone are left out)
         value = None
     if value is not None:
-        yield from (it for it in (printed(value), canonical(value)) if len(it) < len(text))
-        for smaller_value in smaller_values(value):
-            yield from (it for it in (printed(smaller_value), canonical(smaller_value)) if len(it) < len(text))
+        for each in chain([value], smaller_values(value)):
+            yield from (other for other in (printed(each), canonical(each)) if len(other) < len(text))
     piece = len(text)
     while piece:
         for at in range(0, len(text), piece):

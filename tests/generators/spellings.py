@@ -1,4 +1,4 @@
-"""Texts of a value in all three forms of RFC 9804."""
+"""Texts of a value in all three forms of RFC 9804: canonical, advanced, and transport, which is canonical form in base64 and braces."""
 import base64
 import random
 import re
@@ -126,7 +126,7 @@ def rejoined(pieces: list[bytes]) -> bytes:
 
 def escape(octet: int, rng: random.Random) -> bytes:
     """An octet in quotes as an escape, or raw unless it is a quote or a backslash."""
-    ways = [b"\\%03o" % octet, b"\\x%02x" % octet, b"\\x%02X" % octet]
+    ways = [b"\\%03o" % octet, b"\\x%02x" % octet, b"\\x%02X" % octet]  # (a short escape is drawn as often as these three)
     if octet in b"\"'?\\":
         ways += 3 * [b"\\" + bytes([octet])]
     if octet in LETTERS:

@@ -1,4 +1,4 @@
-"""Tags and requests that belong together, or nearly."""
+"""Tags and requests that belong together, or nearly. A written tag is the value inside `(tag ..)`, from which the model reads a `Tag`."""
 import random
 
 from model.tags import AnyOf, Plain, Prefix, Range, Tag, Text
@@ -7,14 +7,14 @@ from model.values import Atom, Value
 STRINGS = [b"ftp", b"read", b"write", b"a", b"b", b"ab", b"abc", b"", b"*", b"set", b"10:00:00", b"23:59:60", b"24:00:00", b"09:30:15",
            b"2024-01-01_00:00:00", b"2024-02-31_23:59:60", b"2024-13-01_00:00:00", b"2024", b"\xff", b"a\xff", b"a\xff\xff", b"my host", b"z"]
 STAR = (Atom(b"*"),)
-NOTHING = (Atom(b"*"), Atom(b"set"))
+EMPTY_SET = (Atom(b"*"), Atom(b"set"))
 
 
 def request(rng: random.Random, depth: int = 2) -> Value:
     """A request, of up to `depth` lists inside one another. No list begins with `*`, which a request must not."""
     if depth == 0 or rng.random() < 0.3:
         return Atom(rng.choice(STRINGS))
-    head = Atom(rng.choice([it for it in STRINGS if it != b"*"]))
+    head = Atom(rng.choice([body for body in STRINGS if body != b"*"]))
     return (head, *(request(rng, depth - 1) for _ in range(rng.randrange(4))))
 
 
@@ -28,12 +28,12 @@ def tag_for(allowed: Value, rng: random.Random, depth: int = 3) -> Value:
     if kind < 0.3:
         members = [tag_for(allowed, rng, depth - 1)] + [tag(rng, depth - 1) for _ in range(rng.randrange(3))]
         rng.shuffle(members)
-        return (*NOTHING, *members)
+        return (*EMPTY_SET, *members)
     if isinstance(allowed, tuple):
         length = rng.randrange(1, len(allowed) + 1)
         members = [tag_for(member, rng, depth - 1) for member in allowed[1:length]]
         if rng.random() < 0.05:
-            members.append(tag(rng, 0))
+            members.append(tag(rng, depth=0))
         return (allowed[0], *members)
     if kind < 0.5:
         return allowed
@@ -70,11 +70,11 @@ def tag(rng: random.Random, depth: int = 2) -> Value:
     if kind < 0.05:
         return STAR
     if kind < 0.1:
-        return NOTHING
+        return EMPTY_SET
     if depth == 0 or kind < 0.3:
         return Atom(rng.choice(STRINGS))
     if kind < 0.5:
-        return (*NOTHING, *(tag(rng, depth - 1) for _ in range(rng.randrange(4))))
+        return (*EMPTY_SET, *(tag(rng, depth - 1) for _ in range(rng.randrange(4))))
     return tag_for(request(rng, depth), rng, depth)
 
 
@@ -91,18 +91,18 @@ def pair(rng: random.Random) -> tuple[Value, Value]:
         return first, first
     if rng.random() < 0.2:
         common = changed_request(common, rng)
-    return first, tag_for(common, rng) if rng.random() < 0.85 else tag(rng)
+    return first, (tag_for(common, rng) if rng.random() < 0.85 else tag(rng))
 
 
 def two_sets(rng: random.Random) -> tuple[Value, Value]:
     """Two written sets with tags for the same requests, in some order each."""
-    requests = [request(rng, 1) for _ in range(rng.choice((2, 2, 3, 3, 4, 12)))]
+    requests = [request(rng, depth=1) for _ in range(rng.choice((2, 2, 3, 3, 4, 12)))]
     sets = []
     for _ in range(2):
-        members = [tag_for(each, rng, 1) if rng.random() < 0.5 else each for each in requests]
-        members += [tag(rng, 1)] if rng.random() < 0.3 else []
+        members = [tag_for(each, rng, depth=1) if rng.random() < 0.5 else each for each in requests]
+        members += [tag(rng, depth=1)] if rng.random() < 0.3 else []
         rng.shuffle(members)
-        sets.append((*NOTHING, *members))
+        sets.append((*EMPTY_SET, *members))
     return sets[0], sets[1]
 
 
@@ -114,7 +114,7 @@ def range_or_prefix_for(body: bytes, rng: random.Random) -> Value:
 
 
 def changed_request(old: Value, rng: random.Random) -> Value:
-    """A request that differs from the given one in one string, or by chance in none. The head of a list gets an octet `x` more."""
+    """A request that differs from the given one in one string, or by chance in none. The head of a list gets an `x` more, so that it is not `*`."""
     if isinstance(old, Atom):
         return Atom(rng.choice(STRINGS))
     at = rng.randrange(len(old))
@@ -131,7 +131,7 @@ def request_near(tag: Tag, rng: random.Random) -> Value:
         return request_near(rng.choice(tag.members), rng)
     if isinstance(tag, Plain):
         members = [request_near(member, rng) for member in tag.members]
-        members += [request(rng, 1) for _ in range(rng.choice((0, 0, 1)))]
+        members += [request(rng, depth=1) for _ in range(rng.choice((0, 0, 1)))]
         return tuple(members) if isinstance(members[0], Atom) and members[0].body != b"*" else members[0]
     if isinstance(tag, Prefix):
         return Atom(near(tag.start + rng.choice((b"", b"a", b"\xff")), rng))

@@ -1,4 +1,4 @@
-"""Reading advanced form (section "Advanced form")."""
+"""Reading advanced form (section "Advanced form"). `X.count_use(row)` counts one use of a row of the table X (coverage.py)."""
 import re
 
 from .coverage import Rows
@@ -44,7 +44,7 @@ def read(text: bytes) -> Value:
     try:
         if len(text) > LONGEST:
             raise FormFault("TooLong")
-        value, end = value_at(text, past_whitespace(text, 0), 0)
+        value, end = value_at(text, past_whitespace(text, 0), open_lists=0)
         behind = past_whitespace(text, end)
         if behind < len(text):
             raise FormFault("Trailing", behind)
@@ -87,8 +87,8 @@ def hinted_at(text: bytes, at: int) -> tuple[Value, int]:
         raise bad("behind a hint's string", bracket)
     body_begins = past_whitespace(text, bracket + 1)
     body, end = string_at(text, body_begins, "behind ]")
-    spaced = (begins, bracket, body_begins) != (at, ends, bracket + 1)
-    HINTS.count_use("with whitespace" if spaced else "without whitespace")
+    has_whitespace = (begins, bracket, body_begins) != (at, ends, bracket + 1)
+    HINTS.count_use("with whitespace" if has_whitespace else "without whitespace")
     return Atom(body, hint), end
 
 

@@ -1,6 +1,7 @@
 """The lines and exit statuses of the commands, and of decisions by rows apart (sections "The program", "The library for C programs").
 
-An answer is a pair: the exit status, and what the program writes. `X.count_use(row)` counts a row of a table of the document."""
+An answer is a pair: the exit status, and what the program writes. `X.count_use(row)` counts a row of a table of the document. A chain is an entry
+with all certificates of the sequence. Steps are the certificates that passed the tests of evidence, each with the number of its item."""
 from collections.abc import Callable
 from contextlib import AbstractContextManager
 
@@ -105,7 +106,7 @@ def answer_of_text(command: str, text: bytes) -> Answer:
 
 def case_limits() -> AbstractContextManager[None]:
     """A context in which intersections have the limits of a case: the product of nodes, and the work if a chain is not small."""
-    return limited(MOST_PRODUCT, MOST_WORK, MOST_PRODUCT)
+    return limited(most=MOST_PRODUCT, work=MOST_WORK, small=MOST_PRODUCT)
 
 
 def read_text(text: bytes, within_limit: bool = True) -> Value:
@@ -117,7 +118,7 @@ def read_text(text: bytes, within_limit: bool = True) -> Value:
 
 
 def read_case(text: bytes) -> Case:
-    """The case of a text. Raises Refused."""
+    """The case of a text. Raises Refused if it is none."""
     value = read_text(text)
     try:
         return cases.read(value)
@@ -161,7 +162,7 @@ def intersect(value: Value) -> bytes:
 
 
 def first_granted(case: Case, rows: list[Row], grants: Callable[[Entry, Steps], bool]) -> Answer:
-    """The line with the first entry that grants the request, or no, also if evidence fails. `grants`: whether an entry with all certificates does."""
+    """The answer with the first entry that grants the request, or no, also if evidence fails. `grants`: whether an entry with these steps does."""
     try:
         steps = evidence.proved_tuples(case.items, rows, case.strict)
     except evidence.Stopped:
@@ -177,18 +178,17 @@ def first_granted(case: Case, rows: list[Row], grants: Callable[[Entry, Steps], 
 
 def check(case: Case, rows: list[Row]) -> Answer:
     """The answer of `check`: the first entry that grants the request, or no. Raises Refused if tags are too large."""
-    return first_granted(case, rows, lambda entry, steps: folded("check", case, entry, steps)[1])
+    return first_granted(case, rows, lambda entry, steps: folded("check", case, entry, steps)[1])  # ([1]: whether the request is granted)
 
 
 def decide(case: Case, rows: list[Row]) -> Answer:
     """The answer of a guard: the first entry that grants the request, or no. Unlike `check` it intersects no tags, so it never refuses a case."""
-
     def grants(entry: Entry, steps: Steps) -> bool:
-        """Whether the tree that joins all from the left grants the request."""
-        of_entry, tuples = reduction.of_entry(entry), [step for _, step in steps]
-        is_granted = derivations.grants_from_left([of_entry, *tuples], case.key, case.request, case.moment, case.strict)
+        """Whether the tree that joins all from the left grants the request. In a short chain every bracketing is tried too."""
+        first, others = reduction.entry_tuple(entry), [step for _, step in steps]
+        is_granted = derivations.grants_from_left([first, *others], case.key, case.request, case.moment, case.strict)
         if len(steps) <= SHORT_CHAIN:
-            try_brackets(of_entry, tuples, case, is_granted)
+            try_brackets(first, others, case, is_granted)
         return is_granted
 
     return first_granted(case, rows, grants)
@@ -206,7 +206,7 @@ def folded(command: str, case: Case, entry: Entry, steps: Steps) -> tuple[Author
     except TooLarge as why:
         raise too_large(command, why) from None
     if len(steps) <= SHORT_CHAIN:
-        try_brackets(reduction.of_entry(entry), [step for _, step in steps], case, is_granted)
+        try_brackets(reduction.entry_tuple(entry), [step for _, step in steps], case, is_granted)
     return result, is_granted
 
 
@@ -234,25 +234,23 @@ def why_not_granted(authorization: Authorization, case: Case) -> str | None:
 
 def explain(case: Case, rows: list[Row]) -> Answer:
     """The answer of `explain`, a line for each entry: that it grants the request, or why it does not. YES if some entry grants it."""
-
     def reason(authorization: Authorization) -> bytes:
         """`grants`, or the word for why it does not grant."""
         row = why_not_granted(authorization, case) or "grants"
         LINES.count_use(row)
         return row.split(":")[0].encode()
 
-    return entry_lines("explain", case, rows, reason, lambda word: word == b"grants")
+    return entry_lines("explain", case, rows, reason, is_good=lambda word: word == b"grants")
 
 
 def reduce(case: Case, rows: list[Row]) -> Answer:
     """The answer of `reduce`, a line for each entry: the authorization that it becomes, or where its chain stops. YES if one is not stopped."""
-
     def five(authorization: Authorization) -> bytes:
         """The printed text of the authorization, a 5-tuple."""
         LINES.count_use("entry N FIVE")
         return printed(five_value(authorization))
 
-    return entry_lines("reduce", case, rows, five, lambda text: True)
+    return entry_lines("reduce", case, rows, five, is_good=lambda text: True)  # (each authorization is good)
 
 
 def entry_lines(command: str, case: Case, rows: list[Row], text_of: Callable[[Authorization], bytes], is_good: Callable[[bytes], bool]) -> Answer:

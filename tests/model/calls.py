@@ -1,7 +1,7 @@
 """What calls for C programs answer, beside the program's lines: statuses, misuse, strings of a value (section "The library for C programs")."""
 from . import answers, canonical
 from .answers import COMMANDS, NO, REFUSED, YES, Answer
-from .coverage import Rows
+from .coverage import Rows  # (`X.count_use(row)` counts one use of a row of the table X)
 from .values import Atom, FormFault
 
 # Statuses of the library that the program does not have.
@@ -33,7 +33,7 @@ def of_library(command: str, answered: Answer) -> Answer:
 
 
 def too_small() -> int:
-    """The status where the buffer is too small. Counts it."""
+    """The status TOO_SMALL, of a call whose buffer is too small. Counts its row of STATUSES."""
     STATUSES.count_use(NAMES[TOO_SMALL])
     return TOO_SMALL
 
@@ -45,8 +45,7 @@ def misused(row: str) -> Answer:
 
 
 def call(number: int | None, texts: tuple[Pointer, ...], buffer: Pointer) -> Answer:
-    """What `spki_answer` answers to a command's number and a text, or `spki_check_accepted` to two texts if the number is None. The texts
-    are empty, null or too long."""
+    """What `spki_answer` answers to a command's number and a text or, if it is None, `spki_check_accepted` to two texts: empty, null or too long."""
     if number is not None and number >= len(COMMANDS):
         return misused("no command has this number")
     for is_null, length in texts:
@@ -66,7 +65,7 @@ def call(number: int | None, texts: tuple[Pointer, ...], buffer: Pointer) -> Ans
 
 
 def string_at(text: bytes, path: tuple[int, ...]) -> Answer:
-    """What `spki_string` answers: its status, and the octets of the string at the end of a path."""
+    """What `spki_string` answers: a status, and the octets of the string at the end of a path, none if the text is refused or has no string there."""
     try:
         value = canonical.read(text)
     except FormFault as fault:

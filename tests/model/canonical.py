@@ -1,4 +1,4 @@
-"""Reading canonical form (section "S-expressions in canonical form")."""
+"""Reading canonical form (section "S-expressions in canonical form"). `X.count_use(row)` counts one use of a row of the table X (coverage.py)."""
 import re
 
 from .coverage import Rows
@@ -22,7 +22,7 @@ def read(text: bytes) -> Value:
     if len(text) > LONGEST:
         raise FormFault("TooLong")
     try:
-        value, end = value_at(text, 0, 0)
+        value, end = value_at(text, at=0, open_lists=0)
         if end < len(text):
             raise FormFault("Trailing", end)
     except FormFault as fault:
@@ -58,9 +58,8 @@ def members_at(text: bytes, at: int, open_lists: int) -> tuple[Value, int]:
 
 
 def string_at(text: bytes, at: int, place: str) -> tuple[bytes, int]:
-    """The octets of the string that begins at an offset, and the offset behind it. Raises FormFault: Short, also at the end of the text, or Bad,
-    with the row `place` of PLACES if no string begins there."""
-    octet_at(text, at)
+    """The octets of the string that begins at an offset, and the offset behind it. Raises FormFault. `place`: the row of PLACES if none begins."""
+    octet_at(text, at)  # (raises Short at the end of the text)
     length = LENGTH.match(text, at)
     if not length:
         raise bad(place, at)

@@ -1,10 +1,10 @@
-"""The case, and rows that stand apart (section "The case")."""
+"""The case, and rows as a text of their own (section "The case"). A row of a case is a signature that is accepted."""
 from collections.abc import Callable
 from dataclasses import dataclass
 from typing import Any
 
 from . import structures, tags
-from .coverage import Rows
+from .coverage import Rows  # (`X.count_use(row)` counts one use of a row of the table X)
 from .structures import Entry, Item, ItemFault, Key, Members, StructureFault, read_date, read_hash, read_key
 from .tags import TagFault
 from .values import Value, canonical, head_of, is_plain
@@ -16,12 +16,12 @@ POLICIES = Rows("case, policy", ["strict", "none"])
 
 
 class CaseFault(Exception):
-    """Why a value is no case, or has a part that has no reading: the words behind `refused` in the line."""
+    """Why a value is no case, or a part of it is wrong: the words behind `refused` in the line."""
 
 
 @dataclass(frozen=True, slots=True)
 class Row:
-    """A signature that another tool has verified: by whom, of the message with which SHA-256 digest, its value's canonical text."""
+    """A signature that is accepted: its signer, the SHA-256 digest of the message, and the canonical text of its value."""
 
     key: Key
     digest: bytes
@@ -73,7 +73,7 @@ def read(value: Value) -> Case:
 
 
 def part(name: str, read_part: Callable[[Value], Any], value: Value) -> Any:
-    """What `read_part` returns for a part. Raises CaseFault, which has the part's name."""
+    """What `read_part` returns for a part of a case. Its faults become a CaseFault with the part's name."""
     try:
         return read_part(value)
     except ItemFault as fault:
@@ -86,11 +86,11 @@ def part(name: str, read_part: Callable[[Value], Any], value: Value) -> Any:
 
 def read_rows(value: Value) -> list[Row]:
     """Reads `(accepted row ..)`. Raises StructureFault for a list of another head, and ItemFault with the number of a row that has a fault."""
-    return [structures.numbered(number, read_row, member) for number, member in enumerate(Members(value, b"accepted").left, 1)]
+    return [structures.read_numbered(number, read_row, member) for number, member in enumerate(Members(value, b"accepted").left, 1)]
 
 
 def read_row(value: Value) -> Row:
-    """Reads `(by key hash value)`. The hash must be by `sha256`."""
+    """Reads `(by key hash value)`. Raises StructureFault, HashAlg also for a hash that is not by `sha256`."""
     members = Members(value, b"by")
     key = read_key(members.next())
     digest = read_hash(members.next())

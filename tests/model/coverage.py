@@ -5,7 +5,7 @@ TABLES: list["Rows"] = []
 
 
 class Rows:
-    """The rows of one table: their names, and how often each was used. Each table that is made is added to TABLES."""
+    """The rows of one table: its title, their names, and how often each was used. Each table that is made is added to TABLES."""
 
     def __init__(self, title: str, names: Iterable[str]) -> None:
         self.title = title
@@ -13,7 +13,7 @@ class Rows:
         TABLES.append(self)
 
     def count_use(self, name: str) -> None:
-        """Counts one use of a row. A name that the table does not list is an error of the model."""
+        """Counts one use of a row. Raises KeyError for a name that the table does not list, which is an error of the model."""
         if name not in self.counts:
             raise KeyError(f"{self.title} has no row {name!r}")
         self.counts[name] += 1

@@ -1,8 +1,8 @@
 """Whether some derivation grants a request, by trying every bracketing (RFC 2693, sections 6.3 and 6.4).
 
-This is the meaning of an answer, apart from how one is computed: a tree over the entry and all certificates in their order, in which each inner node
-is made by one of the RFC's rules. A tag counts as the set of its requests, and a window as the set of its moments. So the request has to be in every
-tag of the tree, and the moment in every window. No tags are intersected, and there is no limit. The left fold of `reduction` has to say the same."""
+This is the meaning of an answer, apart from how one is computed: a tree over the entry and all certificates in order, whose inner nodes are made by
+the RFC's rules. A tag counts as the set of its requests, and a window as the set of its moments. So the request must be in every tag, and the moment
+in every window. No tags are intersected, and there is no limit. The left fold of `reduction` must say the same. `strict`: SHA-1 names no key."""
 import itertools
 from collections.abc import Iterator
 from dataclasses import dataclass
@@ -29,13 +29,13 @@ def grants(leaves: list[Tuple], key: Key, request: Value, moment: bytes, strict:
 
 
 def grants_from_left(leaves: list[Tuple], key: Key, request: Value, moment: bytes, strict: bool) -> bool:
-    """Whether the tree that joins all leaves from the left grants a request of a key at a moment. It grants if any tree does, so
-    the answer is that of `grants`, and is quick for many leaves. The first leaf is the entry's."""
+    """Whether the tree that joins all leaves from the left grants a request of a key at a moment. It grants if any tree does, so the answer is that
+    of `grants`, and is quick for many leaves. The first leaf is the entry's."""
     if not all_contain(leaves, request, moment):
         return False
     root: Node | None = node_of(leaves[0])
     for leaf in leaves[1:]:
-        root = next(rules(root, node_of(leaf), strict), None) if root else None
+        root = next(joined_by_rule(root, node_of(leaf), strict), None) if root else None
     return root is not None and is_for(root, key, strict)
 
 
@@ -52,8 +52,8 @@ def is_for(root: Node, key: Key, strict: bool) -> bool:
 def node_of(step: Tuple) -> Node:
     """The leaf of a tree for a tuple. A name's definition never delegates."""
     if isinstance(step, Authorization):
-        return Node(step.issuer, None, step.subject, step.propagate)
-    return Node(step.key, step.name, step.subject, False)
+        return Node(step.issuer, name=None, subject=step.subject, propagate=step.propagate)
+    return Node(step.key, step.name, step.subject, propagate=False)
 
 
 def roots(leaves: list[Node], strict: bool) -> set[Node]:
@@ -65,12 +65,12 @@ def roots(leaves: list[Node], strict: bool) -> set[Node]:
             end = begin + length
             halves = [(within[begin, middle], within[middle, end]) for middle in range(begin + 1, end)]
             pairs = itertools.chain.from_iterable(itertools.product(lefts, rights) for lefts, rights in halves)
-            within[begin, end] = {root for left, right in pairs for root in rules(left, right, strict)}
+            within[begin, end] = {root for left, right in pairs for root in joined_by_rule(left, right, strict)}
     return within[0, count]
 
 
-def rules(left: Node, right: Node, strict: bool) -> Iterator[Node]:
-    """Yields the node that the RFC's rules make of two nodes, or nothing if no rule fits."""
+def joined_by_rule(left: Node, right: Node, strict: bool) -> Iterator[Node]:
+    """Yields the node that the RFC's rules make of two nodes, or nothing if no rule fits: at most one does."""
     if right.issuer is None or not names(left.subject.principal, right.issuer, strict):
         return
     if right.name is not None:
@@ -79,4 +79,4 @@ def rules(left: Node, right: Node, strict: bool) -> Iterator[Node]:
             subject = Subject(right.subject.principal, right.subject.names + left.subject.names[1:])
             yield Node(left.issuer, left.name, subject, left.propagate)
     elif left.name is None and not left.subject.names and left.propagate:
-        yield Node(left.issuer, None, right.subject, right.propagate)
+        yield Node(left.issuer, name=None, subject=right.subject, propagate=right.propagate)

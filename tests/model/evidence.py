@@ -1,11 +1,11 @@
-"""Which certificates of a sequence pass the tests of evidence, and their tuples (section "Evidence and decision")."""
+"""Which certificates of a sequence pass the tests of evidence, and their tuples (section "Evidence and decision"). `strict`: SHA-1 names no key."""
 import hashlib
 from collections.abc import Iterable, Iterator
 from dataclasses import dataclass
 from typing import Union
 
 from .case import Row
-from .coverage import Rows
+from .coverage import Rows  # (`X.count_use(row)` counts one use of a row of the table X)
 from .structures import Certificate, Hash, Item, Key, Principal, Signature, Subject, Window
 from .tags import Tag
 
@@ -62,7 +62,7 @@ def names(principal: Principal | None, key: Key, strict: bool) -> bool:
 
 
 def proved_tuples(items: list[Item], rows: Iterable[Row], strict: bool) -> list[tuple[int, Tuple]]:
-    """The number of the item and the tuple of each certificate. Raises Stopped at the first certificate that fails a test."""
+    """The number of the item and the tuple of each certificate, if `rows` accept their signatures. Raises Stopped at the first that fails a test."""
     accepted = set(rows)
     return [(number, tuple_of(number, certificate, signature, items, accepted, strict))
             for number, certificate, signature in signed_certificates(items)]
@@ -72,11 +72,11 @@ def signed_certificates(items: list[Item]) -> Iterator[tuple[int, Certificate, S
     """Each certificate: the number of its item, itself, and its signature. `read_sequence` has required a signature behind each."""
     for number, item in enumerate(items, 1):
         if isinstance(item, Certificate):
-            yield number, item, next(it for it in items[number:] if isinstance(it, Signature))
+            yield number, item, next(later for later in items[number:] if isinstance(later, Signature))
 
 
 def tuple_of(number: int, certificate: Certificate, signature: Signature, items: list[Item], accepted: set[Row], strict: bool) -> Tuple:
-    """The tuple of a certificate that passes the four tests, in their order. Raises Stopped with the first that it fails."""
+    """The tuple of a certificate, the item of this number, if it passes the four tests. Raises Stopped with the first, in order, that it fails."""
     key = issuer_key(certificate.issuer, number, items, strict)
     if key is None:
         raise Stopped(number, "KeyNotShown")

@@ -1,4 +1,4 @@
-"""Which form a text is in (section "Which form a text is in")."""
+"""Which form a text is in (section "Which form a text is in"). `X.count_use(row)` counts one use of a row of the table X (coverage.py)."""
 from . import advanced, transport
 from .coverage import Rows
 from .octets import past_whitespace
@@ -20,10 +20,9 @@ def read(text: bytes) -> Value:
 
 
 def read_within_limit(text: bytes) -> Value:
-    """The value of a text, for commands that work on its canonical form. Raises FormFault: the first fault, or TooLong if the canonical form has
-    more octets than a text may have."""
+    """The value of a text whose canonical form is needed. Raises FormFault: the first fault, or TooLong if that form is over a text's limit."""
     value = read(text)
-    # no canonical form has four times as many octets as another text of the value
+    # (a canonical form is less than four times as long as any other text of the value, so that of a short text is not measured)
     if len(text) > LONGEST // 4 and len(canonical(value)) > LONGEST:
         LIMIT.count_use("TooLong, though the text is not")
         raise FormFault("TooLong")

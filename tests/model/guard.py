@@ -9,8 +9,8 @@ from typing import Any
 from . import answers, evidence, forms, intersection, structures, tags
 from .answers import Answer, Refused, refusal, refused
 from .calls import GRANTED, MISUSED, of_library, too_small
-from .case import Case, Row
-from .coverage import Rows
+from .case import Case, Row  # (a row is a signature that is accepted)
+from .coverage import Rows  # (`X.count_use(row)` counts one use of a row of the table X)
 from .structures import Certificate, Entry, ItemFault, Key, Signature, StructureFault
 from .tags import TagFault
 from .values import Atom, FormFault, Value, canonical
@@ -71,7 +71,7 @@ HIGHEST = Limits(octets=1_048_576, work=1_000_000_000)
 
 @dataclass(frozen=True, slots=True)
 class Guard:
-    """An access list, and how its questions are answered."""
+    """A guard: the entries of its access list, whether its policy is strict, by which no hash by SHA-1 names a key, and its limits."""
 
     entries: list[Entry]
     strict: bool
@@ -80,7 +80,7 @@ class Guard:
 
 @dataclass(frozen=True, slots=True)
 class Parts:
-    """A question. A request is a text or its strings, a moment a text or seconds since 1970."""
+    """The parts of a question, as texts in any form. A request may also be a tuple of strings, and a moment seconds since 1970."""
 
     sequence: bytes
     key: bytes
@@ -92,7 +92,7 @@ class Parts:
 
 
 def open_guard(text: bytes, strict: bool, limits: Limits) -> Guard:
-    """The guard of a list's text. `strict`: no hash by SHA-1 names a key. Raises Refused."""
+    """The guard of a list's text. `strict`: no hash by SHA-1 names a key. Raises Refused if the text is no access list."""
     try:
         entries = structures.read_access_list(forms.read_within_limit(text))
     except FormFault as fault:
@@ -104,13 +104,13 @@ def open_guard(text: bytes, strict: bool, limits: Limits) -> Guard:
     except StructureFault as fault:
         REFUSED.count_use("list, item 0")
         raise Refused(f"acl 0 {fault}") from None
-    if limits != USUAL:  # (higher ones count too)
+    if limits != USUAL:  # (higher limits count too)
         GIVEN.count_use("limits that are lower")
     return Guard(entries, strict, limits)
 
 
 def case_of(guard: Guard, question: Parts, rows: list[Row]) -> Case:
-    """The case of a question, with these accepted signatures (rows). Raises Refused for the octets, else for the first bad part, else for counts."""
+    """The case of a question, with these rows. Raises Refused for its octets, else for the first bad part, else for its certificates or strings."""
     if octets_of(question) > guard.limits.octets:
         REFUSED.count_use("question TooLong")
         raise Refused("question TooLong")
@@ -127,7 +127,7 @@ def case_of(guard: Guard, question: Parts, rows: list[Row]) -> Case:
 
 def check_counts(limits: Limits, items: list[Any], request: Value) -> None:
     """Raises Refused if a question that is read has more certificates or strings than the limits."""
-    if sum(isinstance(it, Certificate) for it in items) > limits.certificates:
+    if sum(isinstance(item, Certificate) for item in items) > limits.certificates:
         REFUSED.count_use("question TooManyCertificates")
         raise Refused("question TooManyCertificates")
     if strings_in(request) > limits.words:
@@ -141,7 +141,7 @@ def strings_in(value: Value) -> int:
 
 
 def part(name: str, reader: Any, text: bytes) -> Any:
-    """What a reader returns for a part's text. Raises Refused with the part's name."""
+    """What a reader, such as `structures.read_key`, returns for a part's text. Raises Refused with the part's name."""
     try:
         value = forms.read_within_limit(text)
     except FormFault as fault:
@@ -192,8 +192,7 @@ def octets_of(question: Parts) -> int:
 
 
 def signatures_to_verify(case: Case) -> list[Signed]:
-    """What a verifier is asked about: the key, the message and the signature value of each certificate, up to the first certificate that fails
-    one of the first three tests of evidence."""
+    """The key, the message and the signature value of each certificate, up to the first that fails one of the first three tests of evidence."""
     listed: list[Signed] = []
     for number, certificate, signature in evidence.signed_certificates(case.items):
         key = issuer_key_if_fit(number, certificate, signature, case)
@@ -220,23 +219,23 @@ def until(list_text: bytes, question: Parts, policy: int, limits: Limits, answer
     if status != GRANTED:
         return NEVER
     guard = open_guard(list_text, policy == STRICT, limits)
-    entry = guard.entries[int(line.split()[-1]) - 1]
-    certificates = [it for it in case_of(guard, question, []).items if isinstance(it, Certificate)]
-    windows = [entry.window, *(it.window for it in certificates)]
-    ends = [it.not_after for it in windows if it.not_after]
+    entry = guard.entries[int(line.split()[-1]) - 1]  # (`yes entry N`)
+    certificates = [item for item in case_of(guard, question, rows=[]).items if isinstance(item, Certificate)]
+    windows = [entry.window, *(certificate.window for certificate in certificates)]
+    ends = [window.not_after for window in windows if window.not_after]
     UNTIL.count_use("a window" if ends else "nothing")
     return last_second(min(ends)) if ends else NO_END
 
 
 def last_second(date: bytes) -> int:
     """The last second since 1970-01-01 00:00:00 UTC that is not after a date. The date may be February 31, or have the second 60. The year may
-    be 0, which `datetime` lacks, so the calendar of a year 400 to 799 is used."""
+    be 0, which `datetime` lacks: so a year 400 to 799 with the same calendar is used, and the days between are added."""
     year, month, day, hour, minute, second = map(int, re.split(b"[-_:]", date))
-    alike = year % CYCLE_YEARS + CYCLE_YEARS
-    last = calendar.monthrange(alike, month)[1]
-    clock = (hour, minute, min(second, 59)) if day <= last else (23, 59, 59)
-    since = datetime.datetime(alike, month, min(day, last), *clock) - datetime.datetime(1970, 1, 1)
-    days = since.days + (year - alike) // CYCLE_YEARS * CYCLE_DAYS
+    same_year = year % CYCLE_YEARS + CYCLE_YEARS
+    last_day = calendar.monthrange(same_year, month)[1]
+    clock = (hour, minute, min(second, 59)) if day <= last_day else (23, 59, 59)
+    since = datetime.datetime(same_year, month, min(day, last_day), *clock) - datetime.datetime(1970, 1, 1)
+    days = since.days + (year - same_year) // CYCLE_YEARS * CYCLE_DAYS
     return days * 86_400 + since.seconds
 
 
@@ -255,20 +254,19 @@ def compare_with_check(case: Case, decided: Answer) -> None:
 def misused(row: str) -> tuple[Answer, list[Signed]]:
     """The answer to a call that is misuse, and an empty list of signatures. Counts a row of MISUSES."""
     MISUSES.count_use(row)
-    return of_library("", (MISUSED, b"")), []
+    return of_library("misuse", (MISUSED, b"")), []  # (the status is that of every command)
 
 
 def status_too_small(row: str) -> int:
-    """The status where the buffer is too small. The row of SMALL says for what."""
+    """The status of a call whose buffer is too small. The row of SMALL, which is counted, says for what."""
     SMALL.count_use(row)
     return too_small()
 
 
 def misuse_of_opening(policy: int, limits: Limits, oddity: str) -> str | None:
-    """The row of OPENED that says what is misuse when a guard is opened, None if nothing is. `oddity` is that row itself for misuse that neither
-    the policy nor the limits show."""
+    """The row of OPENED that says what is misuse when a guard is opened: of the policy, the limits, or `oddity` if it is one. None if nothing is."""
     if policy not in POLICIES:
-        return OPENED[0]
+        return OPENED[0]  # (no policy has this number)
     above = [row for row, limit in zip(OPENED[1:4], ("octets", "nodes", "work"), strict=True) if getattr(limits, limit) > getattr(HIGHEST, limit)]
     return above[0] if above else oddity if oddity in OPENED else None
 
@@ -307,9 +305,9 @@ def answer(wish: str, list_text: bytes, question: Parts, rows: list[Row], policy
 def is_possible(list_text: bytes, question: Parts, policy: int, limits: Limits) -> bool:
     """Whether a question would be granted if all its signatures were valid. The list and the question must be ones that are read."""
     guard = open_guard(list_text, policy == STRICT, limits)
-    case = case_of(guard, question, [])
+    case = case_of(guard, question, rows=[])
     rows = [Row(structures.read_key(forms.read(key)), hashlib.sha256(message).digest(), value) for key, message, value in signatures_to_verify(case)]
-    with intersection.limited(limits.nodes, None):
+    with intersection.limited(limits.nodes, work=None):
         is_granted = answers.decide(case, rows)[0] == answers.YES
     POSSIBLE.count_use("yes" if is_granted else "no")
     return is_granted

@@ -3,7 +3,7 @@ import math
 from collections.abc import Iterator
 from contextlib import contextmanager
 
-from .coverage import Rows
+from .coverage import Rows  # (`X.count_use(row)` counts one use of a row of the table X)
 from .tags import NOTHING, AnyOf, Limit, Plain, Prefix, Range, Star, Tag, Text, has_set, in_range, nodes
 
 MOST_PRODUCT = 1_000_000
@@ -28,8 +28,8 @@ uncounted = 0
 
 
 class TooLarge(Exception):
-    """The product of the nodes is over the limit, or the work is (`is_work`). `is_of_guard`: the limit is that of a guard. For a product that is, a
-    case would allow it. For work, the context counts the work of small chains too."""
+    """The product of the nodes is over the limit, or the work is (`is_work`). `is_of_guard`: the limit is that of a guard. That is known of a product
+    if a case would allow it, and of work if the context counts also the work of small chains."""
 
     def __init__(self, product: int = 0, is_work: bool = False) -> None:
         super().__init__(product)
@@ -52,26 +52,24 @@ def limited(most: int, work: int | None = None, small: int = 0) -> Iterator[None
 
 @contextmanager
 def counting_work(of_entry: Tag, others: list[Tag | None]) -> Iterator[None]:
-    """A context in which an entry's tag and those of certificates (None: a name's definition) are folded. The work of a small chain is not counted:
-    within the context it has no limit."""
+    """A context in which an entry's tag and those of certificates (None: a name's definition) are folded. A small chain has no limit of work."""
     global most_work
     before = most_work
     if is_small(of_entry, others):
         most_work = None
     try:
         yield
-    finally:
+    finally:  # (work that was spent stays spent)
         most_work = before if most_work is None else most_work
 
 
 def is_small(of_entry: Tag, others: list[Tag | None]) -> bool:
-    """Whether the numbers of nodes alone show that no intersection in a chain is too large, so that its work need not be counted. The product of all
-    numbers is at most `uncounted`. Or no tag has a set, and the sum of all, times the largest of a certificate, is at most `uncounted`. A name's
-    definition counts as one node."""
-    size, sizes = nodes(of_entry), [1 if it is None else nodes(it) for it in others]
+    """Whether the numbers of nodes alone show that no intersection in a chain is too large, so that its work need not be counted. Their product is at
+    most `uncounted`. Or no tag has a set, and their sum, times the largest of a certificate, is. A name's definition counts as one node."""
+    size, sizes = nodes(of_entry), [1 if tag is None else nodes(tag) for tag in others]
     if size * math.prod(sizes) <= uncounted:
         return True
-    return not any(has_set(it) for it in (of_entry, *others) if it is not None) and (size + sum(sizes)) * max([1, *sizes]) <= uncounted
+    return not any(has_set(tag) for tag in (of_entry, *others) if tag is not None) and (size + sum(sizes)) * max([1, *sizes]) <= uncounted
 
 
 def intersection(a: Tag, b: Tag) -> Tag:
@@ -82,7 +80,7 @@ def intersection(a: Tag, b: Tag) -> Tag:
         raise TooLarge(product)
     if product == MOST_PRODUCT:
         REFUSED.count_use("the product is 1,000,000")
-    return together(a, b)
+    return unlimited_intersection(a, b)
 
 
 def spend_work(cost: int) -> None:
@@ -95,27 +93,27 @@ def spend_work(cost: int) -> None:
         raise TooLarge(is_work=True)
 
 
-def together(a: Tag, b: Tag) -> Tag:
-    """The intersection of two tags, by the first rule that fits. It does not look at the number of nodes, so the rules call it for members."""
+def unlimited_intersection(a: Tag, b: Tag) -> Tag:
+    """The intersection of two tags, by the first rule that fits, without a limit of nodes: the rules call it for members."""
     if isinstance(a, Star) or isinstance(b, Star):
         RULES.count_use("(*) and any")
         return b if isinstance(a, Star) else a
     if isinstance(a, AnyOf) or isinstance(b, AnyOf):
-        return of_sets(members_of(a), members_of(b))
+        return intersect_sets(members_of(a), members_of(b))
     if isinstance(a, Text):
-        return of_string(a, b)
+        return intersect_string(a, b)
     if isinstance(b, Text):
-        return of_string(b, a)
+        return intersect_string(b, a)
     if isinstance(a, Prefix) and isinstance(b, Prefix):
-        return of_prefixes(a, b)
+        return intersect_prefixes(a, b)
     if isinstance(a, Range) and isinstance(b, Range):
-        return of_ranges(a, b)
+        return intersect_ranges(a, b)
     if isinstance(a, Prefix) and isinstance(b, Range):
-        return of_ranges(as_range(a), b)
+        return intersect_ranges(as_range(a), b)
     if isinstance(a, Range) and isinstance(b, Prefix):
-        return of_ranges(a, as_range(b))
+        return intersect_ranges(a, as_range(b))
     if isinstance(a, Plain) and isinstance(b, Plain):
-        return of_lists(a.members, b.members)
+        return intersect_lists(a.members, b.members)
     RULES.count_use("all else")
     return NOTHING
 
@@ -125,9 +123,9 @@ def members_of(tag: Tag) -> tuple[Tag, ...]:
     return tag.members if isinstance(tag, AnyOf) else (tag,)
 
 
-def of_sets(first: tuple[Tag, ...], second: tuple[Tag, ...]) -> Tag:
+def intersect_sets(first: tuple[Tag, ...], second: tuple[Tag, ...]) -> Tag:
     """The set of the intersections of each member of the first with each of the second, in this order, without `(* set)`, or the only one."""
-    members = [it for it in (together(a, b) for a in first for b in second) if it != NOTHING]
+    members = [common for a in first for b in second if (common := unlimited_intersection(a, b)) != NOTHING]
     if not members:
         RULES.count_use("a set and any: none is left")
         return NOTHING
@@ -137,27 +135,27 @@ def of_sets(first: tuple[Tag, ...], second: tuple[Tag, ...]) -> Tag:
     return members[0] if len(members) == 1 else AnyOf(tuple(members))
 
 
-def of_string(string: Text, other: Tag) -> Tag:
+def intersect_string(string: Text, other: Tag) -> Tag:
     """The intersection of a string with a tag that is neither a star nor a set."""
     if isinstance(other, Text):
-        is_left, rule = string == other, "two strings: equal"
+        is_inside, rule = string == other, "two strings: equal"
     elif isinstance(other, Prefix):
-        is_left, rule = string.body.startswith(other.start), "a string and a prefix: contained"
+        is_inside, rule = string.body.startswith(other.start), "a string and a prefix: contained"
     elif isinstance(other, Range):
-        is_left, rule = in_range(other, string.body), "a string and a range: contained"
+        is_inside, rule = in_range(other, string.body), "a string and a range: contained"
     else:
         RULES.count_use("all else")
         return NOTHING
-    RULES.count_use(rule if is_left else rule.split(":")[0] + ": (* set)")
-    return string if is_left else NOTHING
+    RULES.count_use(rule if is_inside else rule.split(":")[0] + ": (* set)")
+    return string if is_inside else NOTHING
 
 
-def of_prefixes(a: Prefix, b: Prefix) -> Tag:
+def intersect_prefixes(a: Prefix, b: Prefix) -> Tag:
     """The longer prefix, if it starts with the shorter one, else NOTHING."""
-    shorter, longer = sorted((a, b), key=lambda it: len(it.start))
-    starts = longer.start.startswith(shorter.start)
-    RULES.count_use("two prefixes: the longer" if starts else "two prefixes: (* set)")
-    return longer if starts else NOTHING
+    shorter, longer = sorted((a, b), key=lambda prefix: len(prefix.start))
+    is_longer = longer.start.startswith(shorter.start)
+    RULES.count_use("two prefixes: the longer" if is_longer else "two prefixes: (* set)")
+    return longer if is_longer else NOTHING
 
 
 def as_range(prefix: Prefix) -> Range:
@@ -172,9 +170,9 @@ def as_range(prefix: Prefix) -> Range:
     return Range(b"alpha", Limit(False, prefix.start), None if above is None else Limit(True, above))
 
 
-def of_ranges(a: Range, b: Range) -> Tag:
-    """The range with the greater lower limit and the lesser upper limit, or NOTHING if that lower one is above the upper one, or equal to it while
-    one of them is strict. NOTHING too for times and dates. The ordering `alpha`, which has all strings, gives way to another one."""
+def intersect_ranges(a: Range, b: Range) -> Tag:
+    """The range with the greater lower limit and the lesser upper limit. NOTHING if this lower limit is above this upper one, or equal to it and one
+    is strict, or if one range is of times and the other of dates. The ordering `alpha`, which has all strings, gives way to another one."""
     orderings = {a.ordering, b.ordering}
     if orderings == {b"time", b"date"}:
         RULES.count_use("two ranges: time and date")
@@ -208,11 +206,11 @@ def tighter(which: str, a: Limit | None, b: Limit | None) -> Limit | None:
     return a if a_is_greater == (which == "lower") else b
 
 
-def of_lists(a: tuple[Tag, ...], b: tuple[Tag, ...]) -> Tag:
+def intersect_lists(a: tuple[Tag, ...], b: tuple[Tag, ...]) -> Tag:
     """The intersection of two lists, member by member, their heads first. The further members of the longer one stay."""
     members: list[Tag] = []
     for first, second in zip(a, b):
-        common = together(first, second)
+        common = unlimited_intersection(first, second)
         if common == NOTHING:
             RULES.count_use("two lists: (* set)")
             return NOTHING

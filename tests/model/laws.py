@@ -45,6 +45,5 @@ def check_laws(command: str, text: bytes, answer: Answer, requests: Callable[[tu
 def tag_of_any_size(value: Value) -> Tag:
     """The tag that an answer has written, read without the limit of nodes: an intersection may have more."""
     reader = tags.Reader()
-    # (so many nodes are not counted)
-    reader.nodes = -10**9
+    reader.nodes = -10**9  # (from here the count does not reach the limit)
     return reader.tag(value)

@@ -1,4 +1,4 @@
-"""The printed text of a value (section "The printed text")."""
+"""The printed text of a value (section "The printed text"). `X.count_use(row)` counts one use of a row of the table X (coverage.py)."""
 import base64
 import re
 

@@ -1,7 +1,7 @@
 """What an entry and the certificates become, joined from the left (section "Evidence and decision"; RFC 2693, 6.3 and 6.4).
 
-What a join costs is the row "work" of section "Questions to a guard"."""
-from .coverage import Rows
+What a join costs is the row "work" of section "Questions to a guard". `strict`: a hash by SHA-1 names no key."""
+from .coverage import Rows  # (`X.count_use(row)` counts one use of a row of the table X)
 from .evidence import Authorization, Definition, Tuple, names
 from .intersection import counting_work, intersection, spend_work
 from .structures import Entry, Subject, Window
@@ -14,7 +14,7 @@ JOINS = Rows("reduction, join", ["an authorization", "a name, none left", "a nam
 
 
 class NoJoin(Exception):
-    """A certificate that does not join what the entry and those before it became: the first cause."""
+    """Why a certificate does not join what the entry and the certificates before it became: the first cause."""
 
 
 class Stopped(Exception):
@@ -32,14 +32,14 @@ def no_join(row: str) -> NoJoin:
     return NoJoin(row.split(":")[0])
 
 
-def of_entry(entry: Entry) -> Authorization:
+def entry_tuple(entry: Entry) -> Authorization:
     """The tuple of an entry, which the keeper of the list issues: Self."""
     return Authorization(None, entry.subject, entry.propagate, entry.tag, entry.window)
 
 
 def fold(entry: Entry, steps: list[tuple[int, Tuple]], strict: bool) -> Authorization:
     """The authorization that an entry becomes with all steps (an item's number and tuple). Raises Stopped where one does not join, and TooLarge."""
-    authorization = of_entry(entry)
+    authorization = entry_tuple(entry)
     with counting_work(entry.tag, [step.tag if isinstance(step, Authorization) else None for _, step in steps]):
         for item, step in steps:
             try:
@@ -89,8 +89,8 @@ def resolved(left: Authorization, name: Definition, strict: bool) -> Authorizati
 
 def common_window(a: Window, b: Window) -> Window | None:
     """The window of the moments within both windows, None if there are none. The later `not_before` and the earlier `not_after` hold."""
-    not_before = max((it for it in (a.not_before, b.not_before) if it), default=None)
-    not_after = min((it for it in (a.not_after, b.not_after) if it), default=None)
+    not_before = max((date for date in (a.not_before, b.not_before) if date), default=None)
+    not_after = min((date for date in (a.not_after, b.not_after) if date), default=None)
     if not_before and not_after and not_before > not_after:
         return None
     return Window(not_before, not_after)

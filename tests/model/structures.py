@@ -1,6 +1,6 @@
 """Keys, hashes, names, dates, entries, certificates, sequences (section "Keys, hashes, dates, entries, certificates").
 
-Each reader takes a value, and gives what it says or raises the first fault in reading order."""
+Each reader takes a value, and returns the structure that it is or raises StructureFault, the first fault in reading order."""
 import hashlib
 import re
 from collections.abc import Callable, Iterable
@@ -8,7 +8,7 @@ from dataclasses import dataclass, field
 from typing import Any, Union
 
 from . import tags
-from .coverage import Rows
+from .coverage import Rows  # (`X.count_use(row)` counts one use of a row of the table X)
 from .tags import DATE, Tag, TagFault
 from .values import Atom, Value, canonical, head_of, is_plain
 
@@ -34,7 +34,7 @@ FORMS = Rows("structure that is read", [
 
 
 class StructureFault(Exception):
-    """Why a value has no reading: a kind, which has the tag's fault behind it if it is Tag. Each that is made counts in FAULTS."""
+    """Why a value is not the structure that is read: a kind of KINDS, or `Tag` and the tag's fault. Each that is made is counted in FAULTS."""
 
     def __init__(self, kind: str) -> None:
         super().__init__(kind)
@@ -43,7 +43,7 @@ class StructureFault(Exception):
 
 
 class ItemFault(Exception):
-    """A fault of an item of an access list, a sequence or a list of rows, by its number from 1. 0 is the list itself, by its version."""
+    """A fault of an item of an access list, a sequence or a list of rows: its number, from 1, or 0 for the version of a list; and its kind."""
 
     def __init__(self, item: int, kind: str) -> None:
         super().__init__(item, kind)
@@ -51,7 +51,7 @@ class ItemFault(Exception):
         self.kind = kind
 
 
-def shape(row: str) -> StructureFault:
+def shape_fault(row: str) -> StructureFault:
     """The fault Shape to raise. Counts the row of SHAPES that says what is wrong."""
     SHAPES.count_use(row)
     return StructureFault("Shape")
@@ -150,32 +150,32 @@ Item = Union[Key, Operation, Certificate, Signature]
 
 
 class Members:
-    """The members of a list behind its head, taken from the left. Raises Shape for any other value."""
+    """The members of a list behind its head, taken from the left: `left` has those that are not yet taken. Raises Shape for any other value."""
 
     def __init__(self, value: Value, head: bytes) -> None:
         if head_of(value) != head:
-            raise shape("a list of another head")
+            raise shape_fault("a list of another head")
         assert isinstance(value, tuple)
         self.left = value[1:]
 
     def next(self) -> Value:
         """The next member, which is taken away. Raises Shape if none is left."""
         if not self.left:
-            raise shape("a member is missing")
+            raise shape_fault("a member is missing")
         first, self.left = self.left[0], self.left[1:]
         return first
 
     def end(self) -> None:
         """Raises Shape if a member is left."""
         if self.left:
-            raise shape("a member too many")
+            raise shape_fault("a member too many")
 
 
 def read_key(value: Value) -> Key:
-    """Reads `(public-key (alg part*))`. A list `(uri ..)` behind the inner list is the fault KeyUris."""
+    """Reads `(public-key (alg part*))`. Raises KeyUris for a list `(uri ..)` behind the inner list."""
     members = Members(value, b"public-key")
     if head_of(members.next()) is None:
-        raise shape("an algorithm that is no plain string")
+        raise shape_fault("an algorithm that is no plain string")
     if members.left and head_of(members.left[0]) == b"uri":
         raise StructureFault("KeyUris")
     members.end()
@@ -186,7 +186,7 @@ def read_key(value: Value) -> Key:
 def read_algorithm(value: Value, place: str) -> bytes:
     """The algorithm of a hash. `place` names the structure in PLACES. Raises Shape for a list, and HashAlg for a string that names none."""
     if isinstance(value, tuple):
-        raise shape("an algorithm is a list")
+        raise shape_fault("an algorithm is a list")
     if value.hint is not None or value.body not in DIGESTS:
         raise fault_at("HashAlg", f"{place}, {'another string' if value.hint is None else 'a hint'}")
     return value.body
@@ -200,7 +200,7 @@ def read_hash(value: Value) -> Hash:
     algorithm = read_algorithm(members.next(), "a hash" if has_digest else "a hash without a digest")
     digest = members.next()
     if not isinstance(digest, Atom) or digest.hint is not None:
-        raise shape("a digest that is no plain string")
+        raise shape_fault("a digest that is no plain string")
     if len(digest.body) != DIGESTS[algorithm]().digest_size:
         raise StructureFault("DigestLength")
     has_uri = bool(members.left) and head_of(members.left[0]) == b"uri"
@@ -217,7 +217,7 @@ def read_principal(value: Value) -> Principal:
         return read_key(value)
     if head_of(value) == b"hash":
         return read_hash(value)
-    raise shape("neither a key nor a hash")
+    raise shape_fault("neither a key nor a hash")
 
 
 def read_name(value: Value) -> Subject:
@@ -231,12 +231,12 @@ def read_name(value: Value) -> Subject:
         principal = None
         names = (first, *members.left)
     if not all(map(is_plain, names)):
-        raise shape("a name that is no plain string")
+        raise shape_fault("a name that is no plain string")
     return Subject(principal, tuple(name.body for name in names if isinstance(name, Atom)))
 
 
 def read_subject(value: Value) -> Subject:
-    """Reads a subject: a principal, a name or a relative name. Those that RFC 2693 has besides are faults of their own."""
+    """Reads a subject: a principal, a name or a relative name. RFC 2693's other subjects, `k-of-n` and `keyholder`, raise Threshold and Keyholder."""
     head = head_of(value)
     if head == b"k-of-n":
         raise StructureFault("Threshold")
@@ -247,7 +247,7 @@ def read_subject(value: Value) -> Subject:
         FORMS.count_use("a name as a subject" if subject.principal else "a relative name as a subject")
         return subject
     if head not in (b"public-key", b"hash"):
-        raise shape("no subject")
+        raise shape_fault("no subject")
     principal = read_principal(value)
     FORMS.count_use("a key as a subject" if isinstance(principal, Key) else "a hash as a subject")
     return Subject(principal)
@@ -261,7 +261,7 @@ def read_date(value: Value) -> bytes:
 
 
 def why_no_date(value: Value) -> str:
-    """The row of PLACES for a value that is no date: it has another form, or which of its numbers is the first out of its range."""
+    """Why a value is no date, as in a row of PLACES: it has another form, or the name of the first number that is out of its range."""
     if not isinstance(value, Atom) or value.hint is not None:
         return "a hint" if isinstance(value, Atom) else "a list"
     numbers = re.fullmatch(rb"[0-9]{4}-([0-9]{2})-([0-9]{2})_([0-9]{2}):([0-9]{2}):([0-9]{2})", value.body)
@@ -284,7 +284,7 @@ def read_version(value: Value, place: str = "a list") -> None:
     members = Members(value, b"version")
     number = members.next()
     if isinstance(number, tuple):
-        raise shape("a version is a list")
+        raise shape_fault("a version is a list")
     if number != Atom(b"0"):
         raise fault_at("UnknownVersion", f"{place}, {'another string' if number.hint is None else 'a hint'}")
     members.end()
@@ -313,7 +313,7 @@ def read_propagate(value: Value) -> bool:
 
 
 def read_ignored(value: Value) -> None:
-    """Reads a field of any content, as `(comment ..)`, which has no effect."""
+    """Reads a field such as `(comment ..)`, which may have any content and has no effect."""
     FORMS.count_use("ignored field")
 
 
@@ -323,9 +323,9 @@ def read_issuer(value: Value) -> Subject:
         return Subject(read_principal(value))
     subject = read_name(value)
     if subject.principal is None:
-        raise shape("neither a key nor a hash")
+        raise shape_fault("neither a key nor a hash")
     if len(subject.names) != 1:
-        raise shape("an issuer of two names")
+        raise shape_fault("an issuer of two names")
     return subject
 
 
@@ -357,9 +357,9 @@ def read_fields(fields: Iterable[Value], readers: Readers) -> dict[bytes, Any]:
         if head == b"online":
             raise StructureFault("Online")
         if head not in readers:
-            raise shape("no field")
+            raise shape_fault("no field")
         if head in contents:
-            raise shape("a field twice")
+            raise shape_fault("a field twice")
         contents[head] = readers[head](value)
     return contents
 
@@ -367,7 +367,7 @@ def read_fields(fields: Iterable[Value], readers: Readers) -> dict[bytes, Any]:
 def require_fields(contents: dict[bytes, Any], *heads: bytes) -> None:
     """Raises Shape if one of these fields is missing in what `read_fields` returned."""
     if any(head not in contents for head in heads):
-        raise shape("a field is missing")
+        raise shape_fault("a field is missing")
 
 
 def window_of(contents: dict[bytes, Any]) -> Window:
@@ -376,7 +376,7 @@ def window_of(contents: dict[bytes, Any]) -> Window:
     if b"valid" not in contents:
         limits, form = directly, "limits directly" if directly else "no limit"
     elif directly:
-        raise shape("validity both ways")
+        raise shape_fault("validity both ways")
     else:
         limits, form = contents[b"valid"], "limits in valid" if contents[b"valid"] else "an empty valid"
     FORMS.count_use(form)
@@ -401,16 +401,16 @@ def read_entry(value: Value) -> Entry:
 
 
 def read_access_list(value: Value) -> list[Entry]:
-    """Reads `(acl version? entry*)`."""
+    """Reads `(acl version? entry*)`. Raises ItemFault for an entry, by its number from 1, and for the version, by 0."""
     entries = Members(value, b"acl").left
     if entries and head_of(entries[0]) == b"version":
-        numbered(0, read_version, entries[0])
+        read_numbered(0, read_version, entries[0])
         FORMS.count_use("version of a list")
         entries = entries[1:]
-    return [numbered(number, read_entry, entry) for number, entry in enumerate(entries, 1)]
+    return [read_numbered(number, read_entry, entry) for number, entry in enumerate(entries, 1)]
 
 
-def numbered(number: int, read: Callable[[Value], Any], value: Value) -> Any:
+def read_numbered(number: int, read: Callable[[Value], Any], value: Value) -> Any:
     """What a reader returns for an item. Raises ItemFault, with the item's number, where the reader raises StructureFault."""
     try:
         return read(value)
@@ -425,7 +425,7 @@ def read_certificate(value: Value) -> Certificate:
     issuer, subject = contents[b"issuer"], contents[b"subject"]
     if issuer.names:
         if b"tag" in contents or b"propagate" in contents:
-            raise shape("tag or propagate beside a name")
+            raise shape_fault("tag or propagate beside a name")
     else:
         require_fields(contents, b"tag")
     window = window_of(contents)
@@ -461,16 +461,16 @@ def read_operation(value: Value) -> Operation:
 
 
 def read_sequence(value: Value) -> list[Item]:
-    """Reads `(sequence item*)`. Behind each certificate must be its signature, with only `(do ..)` between."""
+    """Reads `(sequence item*)`. Behind each certificate must be its signature, with only `(do ..)` between. Raises ItemFault for an item."""
     items: list[Item] = []
     # the number of the certificate whose signature is still to come, or 0
     unsigned = 0
     for number, member in enumerate(Members(value, b"sequence").left, 1):
         if unsigned and head_of(member) not in (b"do", b"signature"):
-            break
+            break  # (the fault is that of the certificate, and comes before one of this member)
         if not unsigned and head_of(member) == b"signature":
             raise ItemFault(number, StructureFault("StraySignature").kind)
-        item = numbered(number, read_item, member)
+        item = read_numbered(number, read_item, member)
         if unsigned and isinstance(item, Operation):
             FORMS.count_use("do between certificate and signature")
         unsigned = number if isinstance(item, Certificate) else 0 if isinstance(item, Signature) else unsigned
@@ -486,7 +486,7 @@ def read_item(value: Value) -> Item:
         b"public-key": read_key, b"do": read_operation, b"cert": read_certificate, b"signature": read_signature}
     head = head_of(value)
     if head not in readers:
-        raise shape("no item")
+        raise shape_fault("no item")
     if head == b"public-key":
         FORMS.count_use("key item")
     return readers[head](value)

@@ -3,7 +3,7 @@ import re
 from dataclasses import dataclass
 from typing import Union
 
-from .coverage import Rows
+from .coverage import Rows  # (`X.count_use(row)` counts one use of a row of the table X)
 from .values import Atom, Value, is_plain
 
 MOST_NODES = 1024
@@ -123,7 +123,7 @@ class Reader:
         return self.starred(value[1:])
 
     def starred(self, members: tuple[Value, ...]) -> Tag:
-        """The tag of a list that begins with the star, by the members behind it."""
+        """The tag of a list that begins with the star, by the members behind it. Raises TagFault."""
         if not members:
             return Star()
         word = members[0]
@@ -134,14 +134,14 @@ class Reader:
         if word.body == b"set":
             return normal_set(tuple(map(self.tag, members[1:])))
         if word.body == b"prefix":
-            return prefix(members[1:])
+            return prefix_of(members[1:])
         if word.body == b"range":
             return range_of(members[1:])
         raise fault("behind the star another word: UnknownStar", "UnknownStar")
 
 
-def prefix(members: tuple[Value, ...]) -> Tag:
-    """The tag of `(* prefix ..)`, by the members behind `prefix`."""
+def prefix_of(members: tuple[Value, ...]) -> Tag:
+    """The tag of `(* prefix ..)`, by the members behind `prefix`. Raises TagFault unless there is exactly one, a string without a hint."""
     if not members:
         raise fault("behind prefix nothing: UnknownStar", "UnknownStar")
     if len(members) > 1:
@@ -155,7 +155,7 @@ def prefix(members: tuple[Value, ...]) -> Tag:
 
 
 def range_of(members: tuple[Value, ...]) -> Tag:
-    """The tag of `(* range ..)`, by the members behind `range`."""
+    """The tag of `(* range ..)`, by the members behind `range`: an ordering, and then at most a lower and an upper limit. Raises TagFault."""
     if not members:
         raise fault("behind range nothing: RangeOrdering", "RangeOrdering")
     ordering = members[0]
@@ -168,14 +168,14 @@ def range_of(members: tuple[Value, ...]) -> Tag:
     limits = members[1:]
     if any(isinstance(member, Atom) and member.hint is not None for member in limits):
         raise fault("among the limits: Hint", "Hint")
-    low, limits = limit(limits, b"g", b"ge")
-    up, limits = limit(limits, b"l", b"le")
+    low, limits = first_limit(limits, b"g", b"ge")
+    up, limits = first_limit(limits, b"l", b"le")
     if limits:
         raise fault("RangeLimit", "RangeLimit")
     return Range(ordering.body, low, up)
 
 
-def limit(members: tuple[Value, ...], strict: bytes, other: bytes) -> tuple[Limit | None, tuple[Value, ...]]:
+def first_limit(members: tuple[Value, ...], strict: bytes, other: bytes) -> tuple[Limit | None, tuple[Value, ...]]:
     """The limit that members begin with, and the members behind it. The limit is None if they do not begin with a string behind one of the two words:
     `strict`, by which the string itself is outside, or `other`."""
     if len(members) >= 2 and is_plain(members[0], strict, other) and is_plain(members[1]):
@@ -197,8 +197,7 @@ def normal_list(members: tuple[Tag, ...]) -> Tag:
 
 
 def normal_set(members: tuple[Tag, ...]) -> Tag:
-    """The normal form of a set whose members are in normal form: a set inside gives its members, `(*)` among them makes it `(*)`, and a set of one
-    member is that member."""
+    """The normal form of a set whose members have theirs: a set inside gives its members, one with `(*)` is `(*)`, one of a single member is that."""
     flat: list[Tag] = []
     for member in members:
         if isinstance(member, AnyOf):
@@ -226,24 +225,24 @@ def has_set(tag: Tag) -> bool:
 
 
 def weight(tag: Tag) -> int:
-    """The nodes of a tag but heads of lists, plus the octets of all its strings: a part of `node_cost`."""
+    """The nodes of a tag except the heads of lists, plus the octets of all its strings: a part of `node_cost`."""
     if isinstance(tag, Plain):
-        return weight(tag.members[0]) + sum(map(weight, tag.members[1:]))
+        return sum(map(weight, tag.members))  # (of a list and its head one node counts)
     if isinstance(tag, AnyOf):
         return 1 + sum(map(weight, tag.members))
     if isinstance(tag, Range):
-        return 1 + sum(len(it.body) for it in (tag.low, tag.up) if it is not None)
+        return 1 + sum(len(limit.body) for limit in (tag.low, tag.up) if limit is not None)
     return 1 + len(tag.body if isinstance(tag, Text) else tag.start if isinstance(tag, Prefix) else b"")
 
 
-def ranges(tag: Tag) -> int:
+def count_of_ranges(tag: Tag) -> int:
     """The number of prefixes and ranges in a tag."""
-    return sum(map(ranges, tag.members)) if isinstance(tag, (Plain, AnyOf)) else int(isinstance(tag, (Prefix, Range)))
+    return sum(map(count_of_ranges, tag.members)) if isinstance(tag, (Plain, AnyOf)) else int(isinstance(tag, (Prefix, Range)))
 
 
 def node_cost(tag: Tag) -> int:
     """What it costs to intersect one node with the tag, beside the 32 of the node: see the row "work" of section "Questions to a guard"."""
-    return 15 * nodes(tag) + 48 * ranges(tag) + weight(tag)
+    return 15 * nodes(tag) + 48 * count_of_ranges(tag) + weight(tag)
 
 
 def written(tag: Tag) -> Value:
@@ -270,7 +269,7 @@ def written(tag: Tag) -> Value:
 
 
 def read_request(value: Value) -> Value:
-    """The value itself if it is a request. Raises TagFault with the first fault."""
+    """The value itself if it is a request. Raises TagFault with the first fault otherwise."""
     kind = request_fault(value)
     if kind:
         REQUEST_FAULTS.count_use(kind)
@@ -279,7 +278,7 @@ def read_request(value: Value) -> Value:
 
 
 def request_fault(value: Value) -> str | None:
-    """The first fault of a value as a request, None if it is one."""
+    """The first fault, a row of REQUEST_FAULTS, of a value as a request. None if it is a request."""
     if isinstance(value, Atom):
         return "Hint" if value.hint is not None else None
     if not value:
@@ -299,7 +298,7 @@ def contains(tag: Tag, request: Value) -> bool:
 
 
 def contained(tag: Tag, request: Value) -> tuple[str, bool]:
-    """The kind of a tag, and whether the tag contains a request."""
+    """The kind of a tag, as in the rows of CONTAINED, and whether the tag contains a request."""
     if isinstance(tag, Star):
         return "(*)", True
     if isinstance(tag, Text):

@@ -1,4 +1,4 @@
-"""The transport form: `{`, the base64 of the canonical form, `}` (section "Transport form")."""
+"""The transport form: `{`, the base64 of the canonical form, `}` (section "Transport form"). FAULTS counts which are met (coverage.py)."""
 import base64
 import re
 
@@ -14,7 +14,7 @@ FAULTS = Rows("transport form, fault", [
 
 
 def fault(row: str, kind: str, at: int | None = None) -> FormFault:
-    """The FormFault to raise. Counts a row of FAULTS."""
+    """The FormFault to raise, with the offset of an octet if its kind has one. Counts a row of FAULTS."""
     FAULTS.count_use(row)
     return FormFault(kind, at)
 
@@ -40,9 +40,9 @@ def read(text: bytes) -> Value:
         if inner.kind == "TooDeep":
             raise fault("TooDeep at the }", "TooDeep") from None
         raise fault("Bad at the }, no canonical form", "Bad", ends) from None
-    behind = past_whitespace(text, ends + 1)
-    if behind < len(text):
-        raise fault("Trailing", "Trailing", behind)
+    rest = past_whitespace(text, ends + 1)
+    if rest < len(text):
+        raise fault("Trailing", "Trailing", rest)
     return value
 
 

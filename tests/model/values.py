@@ -40,7 +40,7 @@ def octet_at(text: bytes, at: int) -> int:
 
 
 def written_length(digits: bytes) -> int:
-    """The number that the digits of a length mean. More than nine digits mean 10**9 here: that is longer than every text too."""
+    """The number that the digits of a length mean, or 10**9 for more than nine digits: that is longer than every text too."""
     return int(digits) if len(digits) <= 9 else 10**9
 
 

@@ -50,8 +50,8 @@ static void delegation(const char *list, const char *sequence, const char *key)
     spki_guard_close(guard);
 }
 
-/* Numbers that a verifier might return in place of a truth value, such as -255 and 0x101, are no places. Nothing is marked by them. Marking needs no
- * memory: until_refusal = 1 would refuse the first request for it. */
+/* Numbers that a verifier might return in place of a truth value, such as -255 and 0x101, are no places: marking them is misuse. Marking needs no
+ * memory: until_refusal = 1 would refuse the first request for it. A place that is marked twice stays marked. */
 static void wrong_places(const char *list, const char *sequence, const char *key)
 {
     static const size_t none[] = {1, 2, 255, 0x100, 0x101, (size_t)-1, (size_t)-255, SIZE_MAX / 2 + 1};
@@ -164,7 +164,7 @@ static void marks_of_question(const char *list, const char *sequence, const char
     expect(spki_asked_mark(elsewhere, 0) == SPKI_DONE && decide(elsewhere, line, sizeof line, &needed) == SPKI_NO
            && !spki_asked_possible(elsewhere), "marks of another guard");
     memset(line, 'y', sizeof line);
-    const struct spki_decision small = spki_asked_decide(asked, line, 3, &needed);
+    const struct spki_decision small = spki_asked_decide(asked, line, 3, &needed); /* (of 12 octets, `yes entry 1` and a line feed) */
     expect(small.status == SPKI_TOO_SMALL && small.until == INT64_MIN && needed == 12 && !memcmp(line, "\0yyy", 4), "a small buffer");
     spki_asked_close(none);
     spki_asked_close(elsewhere);
@@ -235,7 +235,7 @@ static void refused_lists(void)
     spki_guard *guard = (spki_guard *)&until_refusal; /* (not null, so that it is seen that a call sets null) */
     struct spki_limits high = SPKI_HIGHEST_LIMITS, unsized = SPKI_USUAL_LIMITS;
     unsigned char buffer[64];
-    size_t needed = 12345;
+    size_t needed = UNSET;
     expect(spki_guard_open("(acl x)", 7, SPKI_ALLOW_SHA1, NULL, &guard, buffer, sizeof buffer, &needed) == SPKI_REFUSED && !guard
            && is_text(buffer, needed, "refused acl 1 Shape\n"), "a list that is none");
     expect(spki_guard_open("(acl x)", 7, SPKI_ALLOW_SHA1, NULL, &guard, buffer, 3, &needed) == SPKI_TOO_SMALL && needed == 20, "a small buffer");
@@ -292,7 +292,7 @@ static void refused_questions(void)
     spki_guard_close(guard);
 }
 
-/* More strings or octets than the usual limits are refused as `TooManyWords` and `TooLong`. */
+/* More than 64 strings or 65,536 octets, the usual limits, are refused as `TooManyWords` and `TooLong`. */
 static void usual_limits(void)
 {
     static char long_key[65536];
@@ -318,7 +318,7 @@ static void octets_of_strings(void)
     static const char good[] = "(10:public-key(16:rsa-pkcs1-sha256(1:e3:abc)(1:n[1:b]2:ok)))";
     const size_t modulus[] = {1, 2, 1}, past[] = {1, 3}, through[] = {0, 0}, longer[] = {1, 2, 1, 0};
     const void *octets = good;
-    size_t length = 12345;
+    size_t length = UNSET;
     expect(spki_string(good, sizeof good - 1, modulus, 3, &octets, &length) == SPKI_DONE && is_text(octets, length, "ok")
            && (const char *)octets > good && (const char *)octets < good + sizeof good, "another modulus");
     expect(spki_string(good, sizeof good - 1, modulus, 2, &octets, &length) == SPKI_NONE && !octets && !length, "a list is no string");

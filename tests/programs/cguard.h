@@ -8,8 +8,8 @@
 #include <stdio.h>
 #include <string.h>
 
-/* The exit status where a call does otherwise than spki.h says. */
-enum { BROKEN = 99 };
+/* The exit status where a call does otherwise than spki.h says, and what `needed` is before a call, which must set it. */
+enum { BROKEN = 99, UNSET = 12345 };
 
 /* 2024-01-01 00:00:00 UTC */
 static const int64_t moment = 1704067200;
@@ -46,7 +46,7 @@ static int is_text(const void *octets, size_t length, const char *wanted)
 static spki_guard *open_guard(const char *list, enum spki_policy policy)
 {
     spki_guard *guard = NULL;
-    size_t needed = 12345;
+    size_t needed = UNSET;
     expect(spki_guard_open(list, strlen(list), policy, NULL, &guard, NULL, 0, &needed) == SPKI_DONE && guard && !needed, "no guard is opened");
     return guard;
 }
@@ -55,7 +55,7 @@ static spki_guard *open_guard(const char *list, enum spki_policy policy)
 static spki_asked *open_question(const spki_guard *guard, const struct spki_question *question)
 {
     spki_asked *asked = NULL;
-    size_t needed = 12345;
+    size_t needed = UNSET;
     expect(spki_guard_ask(guard, question, &asked, NULL, 0, &needed) == SPKI_DONE && asked && !needed, "no question is opened");
     return asked;
 }
@@ -77,7 +77,7 @@ static void expect_decision(const spki_guard *guard, const struct spki_question 
 {
     unsigned char buffer[64];
     spki_asked *asked = (spki_asked *)&until_refusal; /* (not null, so that it is seen that a call sets null) */
-    size_t needed = 12345;
+    size_t needed = UNSET;
     enum spki_status actual = spki_guard_ask(guard, question, &asked, buffer, sizeof buffer, &needed);
     expect((actual == SPKI_DONE) == (asked != NULL), "a question without a handle, or a handle without a question");
     for (size_t place = 0; asked && place < marks; place++)

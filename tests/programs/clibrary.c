@@ -14,8 +14,8 @@
 #include <string.h>
 
 /* The most questions; the command of spki_check_accepted; how many octets stand before and behind each buffer, and what each is; what each octet of a
- * buffer is before a call; the octets of a thread's stack; the exit status where a call does otherwise. */
-enum { MOST = 10000, CHECK_ACCEPTED = 7, CANARIES = 16, CANARY = 0xa5, UNTOUCHED = 0x5a, STACK = 256 * 1024, BROKEN = 99 };
+ * buffer is before a call, and `needed`; the octets of a thread's stack; the exit status where a call does otherwise. */
+enum { MOST = 10000, CHECK_ACCEPTED = 7, CANARIES = 16, CANARY = 0xa5, UNTOUCHED = 0x5a, UNSET = 12345, STACK = 256 * 1024, BROKEN = 99 };
 
 /* A question: its command and its two texts, and the status and the `length` octets of its answer. */
 struct question {
@@ -65,7 +65,7 @@ static int are_all(const unsigned char *octets, size_t length, unsigned char wan
 /* Asks with a buffer of this size between canaries. The known answer must be written if it fits. If not, only a first octet 0 must be written. */
 static void ask_with(const struct question *asked, size_t size)
 {
-    size_t needed = 12345, written = asked->length <= size ? asked->length : 0;
+    size_t needed = UNSET, written = asked->length <= size ? asked->length : 0;
     unsigned char *block = allocate(size + 2 * CANARIES), *buffer = block + CANARIES;
     memset(block, CANARY, size + 2 * CANARIES);
     memset(buffer, UNTOUCHED, size);
@@ -87,7 +87,7 @@ static void ask_with(const struct question *asked, size_t size)
     free(block);
 }
 
-/* Asks once for each of the first `most` requests for memory, with that one refused, until the call makes no more. */
+/* Asks once for each of the first `most` requests for memory, with that one refused, until the call makes no more. Each answer must say so. */
 static void ask_refused(const struct question *asked, size_t most)
 {
     static const char refused[] = "refused Memory\n";
@@ -149,9 +149,9 @@ static void ask_side_by_side(size_t count)
 }
 
 /* A command that does not exist must be misuse, and set the first octet of the buffer to 0. */
-static void unknown_command(unsigned command, unsigned char *buffer, size_t size)
+static void expect_unknown_command(unsigned command, unsigned char *buffer, size_t size)
 {
-    size_t needed = 12345;
+    size_t needed = UNSET;
     memset(buffer, UNTOUCHED, size);
     if (spki_answer((enum spki_command)command, "1:a", 3, buffer, size, &needed).status != SPKI_MISUSED || needed)
         fail("an unknown command is answered");
@@ -159,13 +159,13 @@ static void unknown_command(unsigned command, unsigned char *buffer, size_t size
         fail("misuse leaves a line, or writes to the buffer");
 }
 
-/* Calls that must be misuse. */
-static void misuse(void)
+/* Makes calls that must be misuse. */
+static void expect_misuse(void)
 {
     unsigned char buffer[64];
-    size_t needed = 12345;
+    size_t needed = UNSET;
     for (unsigned command = 7; command; command *= 2) /* (until no bit is left) */
-        unknown_command(command, buffer, sizeof buffer);
+        expect_unknown_command(command, buffer, sizeof buffer);
     if (spki_answer(SPKI_CHECK, NULL, 1, buffer, sizeof buffer, &needed).status != SPKI_MISUSED || needed)
         fail("a null text with a length");
     if (spki_answer(SPKI_CHECK, "1:a", 3, NULL, 64, NULL).status != SPKI_MISUSED)
@@ -197,7 +197,7 @@ static int read_question(struct question *asked)
 
 int main(int count, char **words)
 {
-    misuse();
+    expect_misuse();
     questions = allocate(MOST * sizeof *questions);
     if (count != 3)
         fail("usage: clibrary THREADS REFUSALS");

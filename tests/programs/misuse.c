@@ -27,7 +27,7 @@ static void expect_misused_unwritten(enum spki_status status, const char *what)
     expect(status == SPKI_MISUSED && !needed, what);
     for (size_t place = 0; place < sizeof buffer; place++)
         expect(buffer[place] == UNTOUCHED, what);
-    needed = 12345;
+    needed = UNSET;
 }
 
 /* A call that has a buffer must have been misuse, and have left no line of an earlier call in it. */
@@ -137,7 +137,7 @@ static void wrong_sizes(void)
     }
 }
 
-/* Numbers that have no meaning must be misuse: commands, policies, places of signatures (`asked` has none), paths that are too long. */
+/* Numbers that have no meaning must be misuse: commands, policies, places of signatures (`asked` has none), lengths of paths that are too long. */
 static void wrong_numbers(void)
 {
     static const size_t path[1];

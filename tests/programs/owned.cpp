@@ -76,7 +76,7 @@ static int opened_question()
     const spki::signature listed = moved.signature(0);
     CHECK(listed.key == "(10:public-key(4:test1:a))" && listed.value == "3:sig" && listed.octets == "sig");
     CHECK(!moved.decide() && moved.explain() == "item 1 NotAccepted\n");
-    for (std::size_t place : {std::size_t(1), std::size_t(0x101), std::size_t(-1), std::size_t(-255)})
+    for (std::size_t place : {std::size_t(1), std::size_t(0x101), std::size_t(-1), std::size_t(-255)}) // (what verifiers might return)
         CHECK(is_misuse([&] { moved.mark(place); }) && !moved.decide());
     moved.mark(0);
     CHECK(moved.decide() && moved.decide() && moved.explain() == "entry 1 grants\n");
@@ -125,7 +125,7 @@ static int kept_decisions()
     const auto ending = [](const char *date) {
         return "(acl (entry (public-key (test a)) (propagate) (tag (*)) (not-after \"" + std::string(date) + "\")))";
     };
-    const auto last = std::chrono::system_clock::from_time_t(1782863999);
+    const auto last = std::chrono::system_clock::from_time_t(1782863999); // (2026-06-30 23:59:59)
     spki::guard guard(ending("2026-06-30_23:59:59")), late(ending("9998-01-01_00:00:00")), endless(list);
     const spki::decision kept = guard.decide({sequence, key, words, now}, is_sig);
     CHECK(kept.until() == last && !guard.decide({sequence, other, words, now}, is_sig).until());
@@ -149,7 +149,7 @@ static int impossible_requests()
     return 0;
 }
 
-// A guard or question that was moved away counts 0, a question is a no, and other calls are misuse. A key that was moved away is still the key.
+// A guard or question that was moved away counts 0 entries or signatures, decides no, and refuses other calls as misuse. A moved key keeps its text.
 static int moved_handles()
 {
     spki::guard guard(list);

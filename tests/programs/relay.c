@@ -71,8 +71,7 @@ static unsigned char *read_block(uint64_t *length)
     return block;
 }
 
-/* Does the call with this number by its eight arguments, and returns what it returns. Number 0 copies octets into block 0: the first two arguments
- * are their address and their count. */
+/* Does the call with this number by eight arguments, and returns what it returns. Number 0 copies octets, args[1] from args[0] on, into block 0. */
 static uint64_t do_call(uint64_t number, const uint64_t *args, unsigned char *const *blocks)
 {
     if (number)

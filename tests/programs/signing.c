@@ -3,7 +3,7 @@
 #include <gcrypt.h>
 #include <stdio.h>
 
-/* The S-expression of a file, or null. */
+/* The S-expression of a file of at most 65,536 octets. Null if it has none. */
 static gcry_sexp_t value_in(const char *path)
 {
     static char octets[65536];

@@ -38,7 +38,7 @@ class Row(NamedTuple):
 
 
 def octets_of(escape: re.Match[bytes]) -> bytes:
-    """The octets that an escape, a match of ESCAPE, stands for. Raises ValueError if it has no meaning."""
+    """The octets that an escape, a match of ESCAPE, stands for. Raises ValueError if it has no meaning, OSError if its file cannot be read."""
     code, line_feed, nothing, times, repeated, path, _ = escape.groups()
     if code:
         return bytes.fromhex(code.decode())
@@ -55,7 +55,7 @@ def octets_of(escape: re.Match[bytes]) -> bytes:
 
 
 def unescaped(field: bytes) -> bytes:
-    """The octets that a field of a row stands for. Raises ValueError for an escape without a meaning."""
+    """The octets that a field of a row stands for. Raises ValueError for an escape without a meaning, OSError for a file that cannot be read."""
     return ESCAPE.sub(octets_of, field)
 
 
@@ -90,21 +90,21 @@ def fault_of(program: str, row: Row) -> str | None:
 
 def fault_of_other_commands(program: str, row: Row) -> str | None:
     """What is wrong with what other commands answer to the text of a row, None if nothing is. `reduce` and `explain` must agree with `check`. What
-    `advanced` and `transport` write of a text must be read as the value that `canonical` writes. The row's own answer is right."""
+    `advanced` and `transport` write of a text must be read as the value that `canonical` writes. Called only if the row's own answer is right."""
     if row.command == "check":
         return fault_of_check(program, row)
     if row.command != "canonical" or row.status:
         return None
     for form in ("advanced", "transport"):
-        written = run(program, form, row.text)[1]
-        again = run(program, "canonical", written)
-        if again != (0, row.answer):
-            return f"what {form} writes is {shown(written)}\nwanted canonical to read the same value again\ncame   {again[0]} {shown(again[1])}"
+        _, written = run(program, form, row.text)
+        status, answer = run(program, "canonical", written)
+        if (status, answer) != (0, row.answer):
+            return f"what {form} writes is {shown(written)}\nwanted canonical to read the same value again\ncame   {status} {shown(answer)}"
     return None
 
 
 def fault_of_check(program: str, row: Row) -> str | None:
-    """What is wrong with what `reduce` and `explain` say of a text beside the answer of `check`, None if nothing is."""
+    """What is wrong with what `reduce` and `explain` say of the text of a row of `check`, whose own answer is right. None if nothing is."""
     decided = row.status, row.answer
     reduced, explained = (run(program, command, row.text) for command in ("reduce", "explain"))
     all_three = (("check", decided), ("reduce", reduced), ("explain", explained))

@@ -19,7 +19,7 @@ CONTENTS = {"web/index.html": b"<p>the web</p>", "web/out/main.js": b"main();", 
 STATUS = re.compile(rb"^HTTP/1\.[01] (\d{3})", re.MULTILINE)
 # Who asks, None without a certificate for TLS; by which method; for which path.
 Asked = tuple[Optional[str], str, str]
-# What nobody gets of these, of which the gate asks for the first ones, and what Ann is granted.
+# Requests that must be denied, of which a run without --long sends the first five, and requests that Ann is granted.
 ALL_ASKED: list[Asked] = [
     (None, "GET", "/secret/plan.txt"), ("eve", "GET", "/web/index.html"), ("ann", "GET", "/secret/plan.txt"), ("eve", "PUT", "/web/made"),
     (None, "GET", "/web/index.html"), ("eve", "HEAD", "/web/index.html"), ("eve", "PUT", "/secret/made"), ("eve", "DELETE", "/web/index.html"),
@@ -27,12 +27,12 @@ ALL_ASKED: list[Asked] = [
     ("eve", "POST", "/web/index.html")]
 ASKED = ALL_ASKED if built.IS_LONG else ALL_ASKED[:5]
 GRANTED: list[Asked] = [("ann", "GET", "/web/index.html"), ("ann", "PUT", "/web/made"), ("ann", "DELETE", "/web/index.html")]
-# The statuses of a denial, and those where nothing has decided.
+# The statuses of a denial, and those where no daemon has decided.
 DENIED, UNDECIDED = {400, 401, 403, 404, 405, 409}, {500, 502, 503}
 
 
 def changes_of(site: Site, answer: bytes) -> Iterator[str]:
-    """A line for each file whose content is in an answer, and for each of the site that an attack has changed or made."""
+    """A line for each file of CONTENTS whose content is in an answer, and for each of the site's files that an attack has changed or made."""
     for name, content in CONTENTS.items():
         if content in answer:
             yield f"{name} is sent"
@@ -42,13 +42,13 @@ def changes_of(site: Site, answer: bytes) -> Iterator[str]:
 
 
 def faults_of(site: Site, asked: Asked, must: set[int]) -> list[str]:
-    """A line for each fault of the answer to a plain request: a status that is not in `must` (0 stands for no answer), or what `changes_of` finds."""
+    """A line for each fault of the answer to a request: a status that is not in `must` (0 stands for no answer), a file's content, a changed file."""
     who, method, path = asked
     body = "made" if method == "PUT" else ""
     header = f"{method} {path} HTTP/1.1\r\nHost: localhost\r\nConnection: close\r\nContent-Length: {len(body)}\r\n\r\n"
     answer = site.answer(who, (header + body).encode())
-    faults = [f"{who} {method} {path} is {each}" for each in statuses(answer) or [0] if each not in must]
-    return faults + [f"{who} {method} {path}: {each}" for each in changes_of(site, answer)]
+    faults = [f"{who} {method} {path} is {status}" for status in statuses(answer) or [0] if status not in must]
+    return faults + [f"{who} {method} {path}: {change}" for change in changes_of(site, answer)]
 
 
 def statuses(answer: bytes) -> list[int]:
@@ -57,20 +57,21 @@ def statuses(answer: bytes) -> list[int]:
 
 
 def in_braces(value: Any) -> str:
-    """The canonical text of a sequence, or any octets, in base64 and braces, as a header has them."""
+    """A value in canonical form, or octets as they are, in base64 and braces, as a header has them."""
     return "{" + base64.b64encode(value if isinstance(value, bytes) else canonical(value)).decode() + "}"
 
 
 def sequence(site: Site, by: str, to: str, tag: str, *, days: int = 9, begins: int = 0, chain: Value | None = None) -> Any:
-    """The sequence with a certificate by the key of `by` for the key of `to`, behind the sequence `chain` if it is given. The certificate does not
-    delegate. It is valid from `begins` to `days`, in days from now."""
-    signer, key = (signer_at(site.at(f"keys/{who}")) for who in (by, to))
-    fields = fields_of(read_text(tag.encode())[1].value, now(begins), now(days))
-    return signed_sequence(certificate_of(signer.key, key.key, fields), signer, chain)
+    """The value of a sequence: the members of the sequence `chain` if it is given, a certificate by the key of `by` for the key of `to`, and its
+    signature. The certificate has the tag, does not delegate, and is valid from `begins` to `days`, in days from now."""
+    signer, subject = (signer_at(site.at(f"keys/{who}")) for who in (by, to))
+    _, node = read_text(tag.encode())
+    return signed_sequence(certificate_of(signer.key, subject.key, fields_of(node.value, now(begins), now(days))), signer, chain)
 
 
 class Attackers:
-    """What attackers send to a site. `form` is that of a certificate in the server's header: `escaped-pem` or `base64-der`."""
+    """What attackers send to a site: `sent` has the text for each name that attacks.py has in braces. `form` is that of a certificate in the
+    server's header: `escaped-pem` or `base64-der`. Also writes the attackers' certificates for TLS into the site's keys/."""
 
     def __init__(self, site: Site, form: str = "escaped-pem") -> None:
         self.site, self.form = site, form
@@ -81,8 +82,7 @@ class Attackers:
         """The texts for the names that attacks.py has in braces: sequences in braces, Ann's certificate for TLS in `form`, the hash of her key."""
         site = self.site
         good = sequence(site, "ann", "ben", READ)
-        # (`text[-8]` is one of the last octets of the signature's value)
-        text = canonical(good)
+        text = canonical(good)  # (`good[1]` is the certificate, and `text[-8]` one of the last octets of the signature's value)
         values: dict[str, Any] = {
             "ben": good, "ended": sequence(site, "ann", "ben", READ, days=-1, begins=-2), "early": sequence(site, "ann", "ben", READ, begins=5),
             "tag": text.replace(b"4:read", b"5:write"), "value": text[:-8] + bytes([text[-8] ^ 1]) + text[-7:],
@@ -92,7 +92,7 @@ class Attackers:
             "other": sequence(site, "ann", "ben", "(files read /web/other)"), "passed": sequence(site, "ben", "eve", READ, chain=good),
             "many": [b"sequence", *good[1:] * 17], "bare": self.key("ben"), "deep": b"(1:a" * 65 + b")" * 65, "name": self.sequence_of_name()}
         certificate = site.text("keys/ann.crt")
-        ann = certificate.translate({ord(it): f"%{ord(it):02X}" for it in "\n +/=%"})
+        ann = certificate.translate({ord(character): f"%{ord(character):02X}" for character in "\n +/=%"})
         if self.form == "base64-der":
             ann = "".join(certificate.splitlines()[1:-1])
         digest = digest_of(signer_at(site.at("keys/ann")).key).hex()
@@ -109,7 +109,7 @@ class Attackers:
         return signed_sequence(certificate, signer, None)
 
     def make_tls_certificates(self) -> None:
-        """Writes certificates for TLS as attackers make them into the site's keys/."""
+        """Writes certificates for TLS into keys/: of Eve's key in Ann's name, Eve's and Ann's, of a P-521 key, and of Ben's key, which has ended."""
         site, make = self.site, ("openssl", "req", "-x509", "-new")
         site.sh(*make, "-key", "keys/eve", "-subj", "/CN=ann", "-days", "9", "-out", "keys/named-ann.crt")
         site.write("keys/both.crt", site.text("keys/eve.crt") + site.text("keys/ann.crt"))
@@ -119,5 +119,5 @@ class Attackers:
         site.sh("openssl", "x509", "-req", "-in", "tmp/old.csr", "-key", "keys/ben", "-days", "-1", "-out", "keys/old.crt")
 
     def filled(self, octets: bytes) -> bytes:
-        """The octets of an attack, with each name in braces replaced by its text. Other braces stay."""
-        return re.sub(rb"\{(\w+)\}", lambda name: self.sent.get(name[1].decode(), name[0].decode()).encode(), octets)
+        """The octets of an attack, with each name in braces replaced by its text in `sent`. Other braces stay."""
+        return re.sub(rb"\{(\w+)\}", lambda match: self.sent.get(match[1].decode(), match[0].decode()).encode(), octets)

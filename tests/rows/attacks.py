@@ -7,15 +7,15 @@ import re
 from collections.abc import Iterator
 from typing import NamedTuple, Optional
 
-# What is tried, by whom (None: without a certificate for TLS), and the octets.
+# What is tried; by whom (None: without a certificate for TLS; two words: a file of keys/ with the certificate, and the key); and the octets.
 Plain = tuple[str, Optional[str], bytes]
-# The statuses that a row may have. What is malformed, or too long, the web server may also refuse by itself, in its own way, or without an answer
-# (0). What is not there may be 404. The last ones are those where nothing has decided.
+# The statuses that an answer may have. What is malformed, or too long, the web server may also refuse by itself, or without an answer (0). What is
+# not there may be 404. The last ones are those of a server without its daemon.
 DENIED = {401, 403}
 MALFORMED = DENIED | {0, 100, 400, 405, 413, 414, 421, 422, 431, 501, 505}
 TOO_LONG, ABSENT, UNCLEAR = MALFORMED | {500, 503}, DENIED | {404}, MALFORMED | {404}
 WITHOUT_DAEMON = {500, 502, 503}
-# What must come where it is not that of its group.
+# The statuses of attacks, by their names, where these are not those of their group (`all_attacks`).
 MUST = {
     "a folded line, by Eve": MALFORMED, "a space before the colon, by Eve": MALFORMED,
     "a header of 100 KiB": TOO_LONG, "a sequence over 64 KiB": TOO_LONG,
@@ -24,15 +24,15 @@ MUST = {
     **{f"the path {name!r}": ABSENT for name in (b"/web/INDEX.HTML", b"/.spki-authd", b"/web/link/plan.txt")},
     **{name: {401} for name in ("no certificate for TLS", "Ben's certificates by no key", "the server's header without TLS's certificate")},
     "a certificate for TLS that has ended": MALFORMED}
-# What some server grants by right: its own page says so. Only the key of a certificate for TLS counts, and nginx and Apache refuse one that has ended
-# by themselves. Caddy follows links.
+# What a server may grant, as the page of its example says. Only the key of a certificate for TLS counts, and nginx and Apache refuse one that has
+# ended by themselves. Caddy follows links.
 ENDED, LINK = "a certificate for TLS that has ended", "the path b'/web/link/plan.txt'"
 GRANTED = {("caddy", ENDED), ("haproxy", ENDED), ("caddy", LINK)}
 PLAIN_PATH = re.compile(r"/[\w./?=~-]*")
 
 
 class Attack(NamedTuple):
-    """A row: what is tried, by whom, what is sent, and the statuses of which one must come."""
+    """An attack: what is tried, by whom (as in `Plain`), the octets that are sent, and the statuses of which the answer must have one."""
 
     what: str
     who: Optional[str]
@@ -55,7 +55,7 @@ def raw(text: str) -> bytes:
 
 
 def attacks_by_headers() -> Iterator[Plain]:
-    """Requests in which a client sends headers that only the web server may set."""
+    """Requests in which clients send headers that only the web server may set: Eve, who has no right, and others who ask for more than they may."""
     for what, *lines in [
             ("Ann's certificate in the server's header", "X-Client-Cert: {ann}"),
             ("the same in lower case", "x-client-cert: {ann}"), ("the same with an underscore", "X_Client_Cert: {ann}"),
@@ -77,7 +77,7 @@ def attacks_by_headers() -> Iterator[Plain]:
 
 
 def attacks_by_doubled_parts() -> Iterator[Plain]:
-    """Requests with a header twice, two requests in one, and lines that are no header."""
+    """Requests with a header twice, two requests in one, lines that are no header, and parts that are too long."""
     shown, basic = "Authorization: SPKI {ben}", "Authorization: Basic YW5uOmFubg=="
     yield "two headers with certificates, the first of another scheme", "ben", request(WEB, basic, shown)
     yield "two headers with certificates, the first of others", "ben", request(WEB, "Authorization: SPKI {ended}", shown)
@@ -119,7 +119,7 @@ def attacks_by_methods() -> Iterator[Plain]:
     yield "HTTP/1.0 without a host", "eve", raw(f"GET {WEB} HTTP/1.0\n\n")
     yield "HTTP/3.7", "eve", request(WEB, version="HTTP/3.7")
     yield "no version that is known", "eve", request(WEB, version="HTTP/x")
-    yield "another protocol", "ann", b"\x16\x03\x01\x02\x00\x01\x00"
+    yield "another protocol", "ann", b"\x16\x03\x01\x02\x00\x01\x00"  # (the beginning of a handshake of TLS)
     yield "writing with a right to read", "ben", request(WEB, "Authorization: SPKI {ben}", method="PUT", body="ben")
     yield "deleting with a right to read", "ben", request(WEB, "Authorization: SPKI {ben}", method="DELETE")
     yield "deleting a folder", "ann", request("/web/", method="DELETE")
@@ -148,13 +148,13 @@ PATHS = [
 
 
 def attacks_by_paths() -> Iterator[Plain]:
-    """Ann, who may read /web/ alone, asks for what is not there by a path that begins so, or for one whose meaning is not clear."""
+    """Ann, who may use only /web/, asks for what is elsewhere by paths that mostly begin with /web/, or by paths whose meaning is not clear."""
     for path in PATHS:
         yield f"the path {path.encode('latin-1')[:40]!r}", "ann", request(path)
 
 
 def attacks_by_certificates() -> Iterator[Plain]:
-    """Certificates of others, changed ones, and keys that are not held."""
+    """Requests with certificates of others, with changed ones, and by clients that do not hold the key. `name` is one of `Attackers.sequences`."""
     yield "no certificate for TLS", None, request(WEB)
     yield "Ben's certificates by no key", None, request(WEB, "Authorization: SPKI {ben}")
     yield "Ben's certificates sent again by Eve's key", "eve", request(WEB, "Authorization: SPKI {ben}")
@@ -181,8 +181,8 @@ LEAVING = "/.well-known/spki-chain"
 
 
 def attacks_on_left_certificates() -> Iterator[Plain]:
-    """Requests at the one path where a client leaves certificates, and which some servers pass on without asking the daemon first: nothing is decided
-    there, and no certificates are left without a signature."""
+    """Requests at LEAVING, where a client leaves certificates (at most 8,192 octets) for later requests. Some servers pass these on without a
+    question to the daemon: so no question may be decided there, and no certificates may be left without a signature."""
     claims = ("X-Original-Method: GET", f"X-Original-URI: {WEB}", "X-Original-Host: localhost", "X-Forwarded-Method: GET", f"X-Forwarded-Uri: {WEB}",
               "X-Forwarded-Host: localhost", "X-Client-Cert: {ann}")
     for method in ("PUT", "GET", "POST", "DELETE", "HEAD", "OPTIONS", "COPY"):
@@ -200,13 +200,13 @@ def attacks_on_left_certificates() -> Iterator[Plain]:
 
 
 def with_statuses(attacks: Iterator[Plain], must: set[int]) -> Iterator[Attack]:
-    """The attacks of a group, whose answers must have one of these statuses, or of those that MUST has for one."""
+    """The attacks of a group, each with the statuses that MUST has for its name, or else with `must`."""
     for what, who, octets in attacks:
         yield Attack(what, who, octets, MUST.get(what, must))
 
 
 def all_attacks() -> Iterator[Attack]:
-    """All rows. A path that has more than plain characters, or leaves its folder, may be refused by the server itself."""
+    """All attacks. A path that has more than plain characters, or `..`, may also be refused by the server itself, or not be found."""
     yield from with_statuses(attacks_by_headers(), DENIED)
     yield from with_statuses(attacks_by_doubled_parts(), MALFORMED)
     yield from with_statuses(attacks_by_methods(), DENIED)

@@ -3,6 +3,10 @@
 A row of a table is the name of a call, its texts and the answer that is wanted, with two or more spaces between them. Several names with
 commas between them are a row each. Texts and answers are written as in `tables/` (`rows/__init__.py`). What a call takes and answers:
 
+    run                             a command, a text; of the reader and of the writer: the octets of each call, the room, what follows
+                                    then (`fails`, `interrupted`, or nothing more); and whether a flush fails. The answer is the status;
+                                    the reader's calls, faults, whether it ended, octets left; the writer's calls, faults, whether it was
+                                    flushed; and what was written
     decode, read_any, Tag::read ..  a text; the value in canonical form. `Tag::read` answers the number of nodes too
     Tag::meet, Tag::holds ..        two texts; a text, or yes or no
     Five::then, fold_chain ..       tuples, three texts each: the key of the issuer, the name that is defined, the rest as an entry.
@@ -17,10 +21,6 @@ commas between them are a row each. Texts and answers are written as in `tables/
     OwnedQuestion::decide_by ..     as many texts, and marks
     Guard::ask                      the four texts of `Guard::read`; a key, seconds, and the strings of a request
     first_member, grants ..         what the callers in `test_callers` take: `crates/test_one_call/src/callers.rt` says it
-    run                             a command, a text; of the reader and of the writer: the octets of each call, the room, what follows
-                                    then (`fails`, `interrupted`, or nothing more); and whether a flush fails. The answer is the status;
-                                    the reader's calls, faults, whether it ended, octets left; the writer's calls, faults, whether it was
-                                    flushed; and what was written
 
 A refused text's answer is the fault and its message."""
 import os
@@ -52,7 +52,7 @@ class CallRow(NamedTuple):
 
 
 def rows_of(table: str) -> Iterator[CallRow]:
-    """The rows of a table in CALLS, by its name. A row with the names of several calls becomes one for each of them."""
+    """The rows of a table in the folder `calls/`, by the table's name. A row with the names of several calls becomes one for each of them."""
     with open(os.path.join(CALLS, table), "rb") as lines:
         for number, line in enumerate(lines, 1):
             line = line.rstrip(b"\n")
@@ -63,19 +63,20 @@ def rows_of(table: str) -> Iterator[CallRow]:
 
 
 def tables() -> dict[str, list[CallRow]]:
-    """The rows of each table."""
+    """The rows of each table in the folder `calls/`, by the table's name."""
     return {name: list(rows_of(name)) for name in sorted(os.listdir(CALLS))}
 
 
 def answers(program: str, rows: Iterable[CallRow]) -> list[bytes]:
-    """What the program answers to rows, in order. Behind them is its status if that is not 0, as where memory ran out for a row or it ended early."""
+    """What the program answers to rows, in order, and then `ended with STATUS` if its status is not 0: memory ran out, or it ended early."""
     lines = b"".join(row.line() for row in rows)
     done = subprocess.run([program], input=lines, stdout=subprocess.PIPE, stderr=subprocess.STDOUT, timeout=SECONDS)
-    return [answer_of(line) for line in done.stdout.split(b"\n")[:-1]] + ([b"ended with %d" % done.returncode] if done.returncode else [])
+    ending = [b"ended with %d" % done.returncode] if done.returncode else []
+    return [answer_of(line) for line in done.stdout.split(b"\n")[:-1]] + ending
 
 
 def answer_of(line: bytes) -> bytes:
-    """The octets that a line has in hexadecimal digits, or the line itself if it has other characters, as a message of a fault."""
+    """The octets that a line of the program has in hexadecimal digits, or the line itself if it has other characters, as an error message has."""
     try:
         return bytes.fromhex(line.decode())
     except ValueError:
@@ -92,7 +93,7 @@ def first_run() -> bytes:
 
 
 def cut_short() -> Iterator[CallRow]:
-    """Calls of readers on each proper beginning of a text in canonical, advanced and transport form: it is refused as `Short`."""
+    """Calls of readers on texts that lack their last octets, in canonical, advanced and transport form: each is refused as `Short`."""
     for calls, text in ((("decode", "Doc::open"), first_run()), (("read_advanced", "read_any"), ADVANCED), (("read_any",), BRACES)):
         for length in range(len(text)):
             for call in calls:
@@ -109,8 +110,8 @@ def number(value: int) -> bytes:
 
 
 def failing_ends() -> Iterator[CallRow]:
-    """Calls of `run` on the first run, in which the reader or the writer fails after `room` octets, or the writer takes no more of them."""
-    # (the answers are those that the head of this file describes for `run`; 3 is the status where reading or writing fails)
+    """Calls of `run` on the first run, one octet a call, in which the reader or the writer fails after `room` octets, or the writer takes no more."""
+    # (the texts and the answers are those that the head of this file describes for `run`; 3 is the status where reading or writing fails)
     text = first_run()
     for room in range(len(text) + 1):
         wanted = b"3, %d 1 false %d, 0 0 false;" % (room + 1, len(text) - room)
@@ -118,5 +119,5 @@ def failing_ends() -> Iterator[CallRow]:
     for room in range(len(LINE)):
         for past in (b"fails", b""):
             wanted = b"3, 2 0 true 0, %d 1 false;%s" % (room + 1, LINE[:room])
-            texts = (b"check", text, b"", b"", b"", b"1", number(room), past)
+            texts = (b"check", text, b"", b"", b"", b"1", number(room), past)  # (no limit of the reader)
             yield CallRow(f"calls/ends:write {room} {past.decode() or 'no more'}", "run", texts, wanted)

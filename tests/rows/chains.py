@@ -1,4 +1,6 @@
-"""Cases with certificates, whose digests are computed here. The answers are worked out by hand from docs/FORMATS.md."""
+"""Cases with certificates, whose digests are computed here. The answers are worked out by hand from docs/FORMATS.md: each is a pair of an exit status
+and the text that is printed. A case is a whole question in one text: an access list, rows, each of which accepts one signature, the items of a
+sequence, the key that asks (here mostly d), a request (mostly `(ftp)`) and a moment. The keys are named by letters."""
 import base64
 import hashlib
 import re
@@ -14,32 +16,32 @@ def octets_of(text: str | bytes) -> bytes:
 
 
 def canonical(text: str | bytes) -> bytes:
-    """The canonical form of any text."""
+    """The canonical form of a text in any form. Raises FormFault if it is not one value."""
     return values.canonical(forms.read(octets_of(text)))
 
 
 def digest(text, alg="sha256"):
-    """The hash of a text's canonical form, as it is written."""
+    """The `(hash ..)` of a text's canonical form, by an algorithm of hashlib."""
     return f"(hash {alg} #{hashlib.new(alg, canonical(text)).hexdigest()}#)"
 
 
 def key(letter):
-    """The key that is named by a letter, as it is written."""
+    """The `(public-key ..)` that is named by a letter."""
     return f"(public-key (test {letter}))"
 
 
 def cert(issuer, subject, fields="(propagate) (tag (*))"):
-    """A certificate, as it is written. `fields` is the text behind its issuer and subject."""
+    """A `(cert ..)`. `fields` is the text behind its issuer and subject, by default delegation and the tag of all requests."""
     return f"(cert (issuer {issuer}) (subject {subject}) {fields})"
 
 
 def signed(certificate, signer, value="sig", message=None):
-    """A certificate and its signature, as written. `message` is the text of which the signature has the digest: by default the certificate."""
+    """A certificate and its `(signature ..)`. `message` is the text of which the signature has the digest: by default the certificate."""
     return f"{certificate} (signature {digest(message or certificate)} {signer} {value})"
 
 
 def row(certificate, signer, value="sig"):
-    """The row that accepts a signature of a certificate by a key, as it is written."""
+    """The row, `(by ..)`, that accepts a signature of a certificate by a key."""
     return f"(by {signer} {digest(certificate)} {value})"
 
 
@@ -49,7 +51,7 @@ def rows_and_items(*pairs):
 
 
 def case(entries, rows="", items="", asks=key("d"), request="(ftp)", at=NOW, policy=""):
-    """A case, as it is written. Its parts are pasted in: `entries`, `rows` and `items` are the members of their lists, side by side."""
+    """The text of a case. Its parts are pasted in: `entries`, `rows` and `items` are the members of their lists, side by side."""
     return f"(case (acl {entries}) (accepted {rows}) (sequence {items}) (key {asks}) (request {request}) (at {at}) {policy})"
 
 
@@ -67,7 +69,7 @@ YES, NO = (0, "yes entry 1\n"), (1, "no\n")
 
 
 def refused(line):
-    """The status and the line of a refusal."""
+    """The answer, a status and a line, of a refusal: `line` is what follows `refused`."""
     return 2, f"refused {line}\n"
 
 
@@ -77,8 +79,8 @@ CHAIN = [(key("a"), key("b")), (key("b"), key("c")), (key("c"), key("d"))]
 
 
 def chain(changed=None, how=None):
-    """The rows and the items of CHAIN, as `rows_and_items`. The certificate at the place `changed`, from 0, fails the test of evidence that `how`
-    names. If none is given, all pass."""
+    """The rows and the items of CHAIN, two texts as of `rows_and_items`. The certificate at the place `changed`, from 0, fails the test of evidence
+    that `how` names: `key not shown`, `digest differs`, `signer differs` or `not accepted`. By default all pass."""
     rows, items = [], []
     for place, (issuer, subject) in enumerate(CHAIN):
         fails = how if place == changed else None
@@ -92,7 +94,7 @@ def chain(changed=None, how=None):
 
 
 def chains():
-    """Yields (name, text, what `check` answers): the chain, and others that differ from it at one place."""
+    """Yields (name, text, what `check` answers): the chain from a by b and c to d, and others that differ from it at one place."""
     yield "whole chain", case(entry("a"), *chain()), YES
     for place in range(3):
         for how in ("key not shown", "digest differs", "signer differs", "not accepted"):
@@ -137,7 +139,7 @@ def sizes():
 
 
 def long_lists():
-    """Yields (name, text, what `check` answers): lists of eight entries that are denied, each for one reason, and a ninth."""
+    """Yields (name, text, what `check` answers): lists of eight entries that do not grant, all for one reason, and of a ninth, which may."""
     rows, items = chain()
     ninth = (0, "yes entry 9\n")
     over = '(not-after "2023-12-31_23:59:59")'
@@ -149,6 +151,7 @@ def long_lists():
     yield "nine entries, and another key asks", case(entry("a") * 9, rows, items, asks=key("x")), NO
     yield "nine entries, and a certificate twice", case(entry("a") * 9, rows, items + signed(cert(*CHAIN[2]), key("c"))), NO
     large, small = (entry("a", f"(propagate) (tag {tag}) {over}") for tag in (f"(* set {'n ' * 999})", "n"))
+    # (the large tags have 1,000 and 1,001 nodes, whose product is over the limit of 1,000,000)
     granted, shown = entry("a", "(propagate) (tag n)"), rows_and_items((cert(key("a"), key("d"), f"(tag (* set {'n ' * 1000}))"), key("a")))
     yield "eight entries whose window is over, and one too large", case(small * 8 + large, *shown, request="n"), refused("TooLarge")
     yield "eight entries whose window is over, and one that grants, before one too large", \
@@ -162,7 +165,7 @@ def long_lists():
 
 
 def long_lists_of_tags():
-    """Yields (name, text, what `check` answers): nine entries, and two certificates whose tags have a product of nodes over 1,000,000."""
+    """Yields (name, text, what `check` answers): nine entries, and two certificates whose tags have 1,001 nodes each, so a product over 1,000,000."""
     def case_of(entries, tag):
         """A case of entries and of two certificates, both with this tag."""
         first, second = cert(key("a"), key("b"), f"(propagate) (tag {tag})"), cert(key("b"), key("d"), f"(tag {tag})")
@@ -187,8 +190,8 @@ def moments():
 
 
 def policies():
-    """Yields (name, text, what `check` answers): what the strict policy refuses, which is hashes by SHA-1 as issuer and signer (and as subject, in
-    `explained`), and not as a message's digest."""
+    """Yields (name, text, what `check` answers): cases by both policies. The strict one denies if a hash by SHA-1 is an issuer or a signer (or a
+    subject: see `explained`), and not if it is a message's digest."""
     a, b = key("a"), key("b")
     c1 = cert(a, b, "(tag (*))")
     hashed = {alg: cert(digest(a, alg), b, "(tag (*))") for alg in ("sha1", "sha256", "sha512")}
@@ -209,14 +212,14 @@ def policies():
         yield f"short digest {policy}", case(short, asks=a, policy=policy), refused("acl 1 DigestLength")
 
 
-def order():
+def signature_places():
     """Yields (name, text, what `check` answers): signatures at right and wrong places of a sequence."""
     a, c1 = key("a"), cert(key("a"), key("b"), "(tag (*))")
-    one = f"(signature {digest(c1)} {a} sig)"
-    for items, line in ((one, "1 StraySignature"), (f"{c1} {a} {one}", "1 UnsignedCert"), (c1, "1 UnsignedCert"),
-                        (f"{c1} {one} {one}", "3 StraySignature"), ("(do sign)", "1 UnknownOp")):
+    signature = f"(signature {digest(c1)} {a} sig)"
+    for items, line in ((signature, "1 StraySignature"), (f"{c1} {a} {signature}", "1 UnsignedCert"), (c1, "1 UnsignedCert"),
+                        (f"{c1} {signature} {signature}", "3 StraySignature"), ("(do sign)", "1 UnknownOp")):
         yield f"sequence {items}", case(entry("a"), "", items), refused(f"sequence {line}")
-    with_operations = f"(do hash sha1) {c1} (do hash sha256) {one}"
+    with_operations = f"(do hash sha1) {c1} (do hash sha256) {signature}"
     yield "operations between", case(entry("a"), row(c1, a), with_operations, key("b")), YES
 
 
@@ -258,30 +261,30 @@ def malformed():
 GRANTS, NONE = (0, "entry 1 grants\n"), (1, "no entries\n")
 
 
-def five(subject, fields="(tag (*))"):
-    """What `reduce` answers to a case of one entry whose chain does not stop: the authorization for a subject. `fields` is the text behind it."""
+def reduced_to(subject, fields="(tag (*))"):
+    """What `reduce` answers to a case of one entry whose chain does not stop: the authorization for a subject. `fields` is the text behind that."""
     return 0, f"entry 1 (five (subject {subject}) {fields})\n"
 
 
 def explained():
-    """Yields (name, text, what `reduce` answers, what `explain` answers): cases, mostly of one entry. Both are equal where its chain stops."""
+    """Yields (name, text, what `reduce` answers, what `explain` answers): cases, mostly of one entry. If its chain stops, both answers are equal."""
     a, b, c = key("a"), key("b"), key("c")
     host, all_of_it = f"(entry {a} (tag (ftp host)))", entry("a")
     c1, c2 = cert(a, b, "(tag (*))"), cert(b, c, "(tag (*))")
-    yield "first run", case(host, asks=a, request="(ftp host dir)"), five(a, "(tag (ftp host))"), GRANTS
-    yield "shorter request", case(host, asks=a), five(a, "(tag (ftp host))"), (1, "entry 1 TagLacks\n")
+    yield "first run", case(host, asks=a, request="(ftp host dir)"), reduced_to(a, "(tag (ftp host))"), GRANTS
+    yield "shorter request", case(host, asks=a), reduced_to(a, "(tag (ftp host))"), (1, "entry 1 TagLacks\n")
     packed = base64.b64encode(hashlib.sha256(canonical(a)).digest()).decode()
     of_hash = f"(entry {digest(a)[:-1]} (uri http://keys.example/a)) (tag (*)))"
-    yield "entry for a hash", case(of_hash, asks=a), five(f"(hash sha256 |{packed}|)"), GRANTS
-    yield "delegation", case(all_of_it, *rows_and_items((c1, a)), b), five(b), GRANTS
+    yield "entry for a hash", case(of_hash, asks=a), reduced_to(f"(hash sha256 |{packed}|)"), GRANTS
+    yield "delegation", case(all_of_it, *rows_and_items((c1, a)), b), reduced_to(b), GRANTS
     stopped, no_tag = (1, "entry 1 item 3 NoDelegation\n"), (1, "entry 1 item 1 NoTag\n")
     yield "delegation: one too many", case(all_of_it, *rows_and_items((c1, a), (c2, b)), c), stopped, stopped
-    yield "delegation passed on", case(all_of_it, *rows_and_items((cert(a, b), a)), b), five(b, "(propagate) (tag (*))"), GRANTS
+    yield "delegation passed on", case(all_of_it, *rows_and_items((cert(a, b), a)), b), reduced_to(b, "(propagate) (tag (*))"), GRANTS
     read_and_write = entry("a", "(propagate) (tag (* set read write))")
     narrowed, apart = cert(a, b, "(tag (* set write (* prefix re)))"), cert(a, b, "(tag x)")
-    yield "reduced sets", case(read_and_write, *rows_and_items((narrowed, a)), b, "read"), five(b, "(tag (* set read write))"), GRANTS
+    yield "reduced sets", case(read_and_write, *rows_and_items((narrowed, a)), b, "read"), reduced_to(b, "(tag (* set read write))"), GRANTS
     yield "reduced sets: none", case(read_and_write, *rows_and_items((apart, a)), b, "read"), no_tag, no_tag
-    sha1 = five(f"(hash sha1 |{base64.b64encode(hashlib.sha1(canonical(a)).digest()).decode()}|)")
+    sha1 = reduced_to(f"(hash sha1 |{base64.b64encode(hashlib.sha1(canonical(a)).digest()).decode()}|)")
     by_sha1 = f"(entry {digest(a, 'sha1')} (tag (*)))"
     yield "open: subject by sha1", case(by_sha1, asks=a), sha1, GRANTS
     yield "strict: subject by sha1", case(by_sha1, asks=a, policy="(policy strict)"), sha1, (1, "entry 1 NotTheKey\n")
@@ -295,19 +298,19 @@ def explained_windows():
     a, b, c = key("a"), key("b"), key("c")
     alone = f"(entry {a} (tag (*)) (not-after \"2024-12-31_23:59:59\"))"
     lacks = 1, "entry 1 WindowLacks\n"
-    reduced = five(a, '(tag (*)) (valid (not-after "2024-12-31_23:59:59"))')
+    reduced = reduced_to(a, '(tag (*)) (valid (not-after "2024-12-31_23:59:59"))')
     yield "windows: too late", case(alone, asks=a, at='"2025-01-01_00:00:00"'), reduced, lacks
     until = entry("a", '(propagate) (tag (*)) (not-after "2024-06-01_00:00:00")')
     limits = '(valid (not-before "2024-06-01_00:00:00") (not-after "2024-06-01_00:00:00"))'
     stopped = 1, "entry 1 item 1 NoValidity\n"
-    for start, reduced, why in (("2024-06-01_00:00:00", five(b, f"(tag (*)) {limits}"), lacks), ("2024-06-01_00:00:01", stopped, stopped)):
+    for start, reduced, why in (("2024-06-01_00:00:00", reduced_to(b, f"(tag (*)) {limits}"), lacks), ("2024-06-01_00:00:01", stopped, stopped)):
         limited = cert(a, b, f'(tag (*)) (valid (not-before "{start}"))')
         yield f"windows: certificate from {start}", case(until, *rows_and_items((limited, a)), b), reduced, why
     limits = '(not-before "2024-06-01_00:00:00") (not-after "2024-01-01_00:00:00")'
     yield "limits: a window without moments", case(f"(entry {a} (tag (*)) {limits})", asks=a, at='"2024-03-01_00:00:00"'), \
-        five(a, f"(tag (*)) (valid {limits})"), lacks
+        reduced_to(a, f"(tag (*)) (valid {limits})"), lacks
     over = '(not-after "2000-01-01_00:00:00")'
-    tests, reduced = f"(entry {c} (tag (http)) {over})", five(c, f"(tag (http)) (valid {over})")
+    tests, reduced = f"(entry {c} (tag (http)) {over})", reduced_to(c, f"(tag (http)) (valid {over})")
     for asks, request, why in ((a, "(ftp)", "NotTheKey"), (c, "(ftp)", "TagLacks"), (c, "(http)", "WindowLacks")):
         yield f"three tests: {why}", case(tests, asks=asks, request=request), reduced, (1, f"entry 1 {why}\n")
 
@@ -317,12 +320,12 @@ def explained_names():
     a, b, c = key("a"), key("b"), key("c")
     friends, bob = f"(cert (issuer (name {a} friends)) (subject {b}))", f"(cert (issuer (name {b} bob)) (subject {c}))"
     of_friends = f"(entry (name {a} friends bob) (tag (*)))"
-    yield "linked names", case(of_friends, *rows_and_items((friends, a), (bob, b)), c), five(c), GRANTS
+    yield "linked names", case(of_friends, *rows_and_items((friends, a), (bob, b)), c), reduced_to(c), GRANTS
     turned = 1, "entry 1 item 1 NotTheName\n"
     yield "linked names: in the other order", case(of_friends, *rows_and_items((bob, b), (friends, a)), c), turned, turned
-    yield "linked names: one left", case(of_friends, *rows_and_items((friends, a)), c), five(f"(name {b} bob)"), (1, "entry 1 NotTheKey\n")
+    yield "linked names: one left", case(of_friends, *rows_and_items((friends, a)), c), reduced_to(f"(name {b} bob)"), (1, "entry 1 NotTheKey\n")
     relative, definition = cert(a, "(name bob)", "(tag (*))"), f"(cert (issuer (name {a} bob)) (subject {b}))"
-    yield "relative name", case(entry("a"), *rows_and_items((relative, a), (definition, a)), b), five(b), GRANTS
+    yield "relative name", case(entry("a"), *rows_and_items((relative, a), (definition, a)), b), reduced_to(b), GRANTS
 
 
 def explained_evidence():
@@ -338,20 +341,20 @@ def explained_evidence():
     yield "evidence behind a key", case(entry("a"), rows, items + a + signed(c2, b), c), later, later
     yield "no entries where evidence fails", case("", "", items, b), first, first
     yield "no entries", case("", rows, items, b), NONE, NONE
-    _, second = five(b)
+    _, second = reduced_to(b)
     yield "second entry", case(f"(entry {c} (tag (*)))" + entry("a"), rows, items, a), \
         (0, f"entry 1 item 1 NotIssuer\n{second.replace('entry 1', 'entry 2')}"), (1, "entry 1 item 1 NotIssuer\nentry 2 NotTheKey\n")
 
 
 def answer_of_check(lines):
-    """The status and the line that `check` must answer to a case, by the lines of its explanation: the first entry that grants, else a no."""
+    """The status and the line that `check` must answer to a case, by the text that `explain` prints: the first entry that grants, else no."""
     granted = re.search(r"^entry (\d+) grants$", lines, re.MULTILINE)
     return (0, f"yes entry {granted[1]}\n") if granted else NO
 
 
 def rows():
     """Yields the place, the command, the text, the status and the answer of each row."""
-    for examples in (chains, windows_and_tags, moments, policies, order, sizes, long_lists, long_lists_of_tags, malformed):
+    for examples in (chains, windows_and_tags, moments, policies, signature_places, sizes, long_lists, long_lists_of_tags, malformed):
         for name, text, (status, answer) in examples():
             yield f"chains:{name}", "check", text.encode(), status, answer.encode()
     for name, text, reduced, why in explained():

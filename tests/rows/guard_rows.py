@@ -1,5 +1,6 @@
-"""Rows for `test_one_call` that are made here: cases with certificates, whose digests are computed, and questions to guards. What guards
-answer is what the model answers to their parts; other answers are worked out by hand from docs/FORMATS.md."""
+"""Rows for `test_one_call`, made by the functions `of_..`: cases with certificates, whose digests are computed, and questions to guards. What guards
+answer is what the model answers to their parts; other answers are worked out by hand from docs/FORMATS.md. The texts of each call are those that
+call_rows.py lists. In a case, `rows` are the signatures that it accepts, and `items` the members of its sequence."""
 import hashlib
 import re
 from collections.abc import Iterator
@@ -17,15 +18,15 @@ from rows.chains import canonical, cert, entry, key, row, signed
 KA, KB, KC = map(key, "abc")
 NOW = b'"2024-01-01_00:00:00"'
 C1 = cert(KA, KB, "(tag (*))")
-ALL = entry("a")
-HOST = entry("a", "(tag (ftp host))")
-NO_ROWS = b"(8:accepted)"
+# Entries for KA: one that delegates and contains each request, and one that does not delegate and contains some.
+ALL, HOST = entry("a"), entry("a", "(tag (ftp host))")
+NO_ROWS, NO_LIMITS = b"(8:accepted)", (b"", b"")
 ENTRY = re.compile(rb"entry \d+ ")
 SHAPES = {"Canonical": lambda text: text, "Advanced": lambda text: printed(forms.read(text)), "Transport": braced}
 
 
 def case(entries: str, rows: str = "", items: str = "", asks: str = KB, request: str = "(ftp)") -> bytes:
-    """The canonical text of a case, by the texts of its entries, its rows and the items of its sequence, by the key that asks and its request."""
+    """The canonical text of a case, from the texts of its entries, its rows and its items, of the key that asks and of its request."""
     return canonical(chains.case(entries, rows, items, asks, request))
 
 
@@ -33,19 +34,19 @@ def case(entries: str, rows: str = "", items: str = "", asks: str = KB, request:
 
 
 def signed_wrongly(certificate: str) -> str:
-    """A certificate and a signature of KA, with one bit of the digest changed."""
+    """A certificate and a signature by KA, in whose digest one bit is wrong."""
     head, digits, tail = chains.digest(certificate).split("#")
     return f"{certificate} (signature {head}#{int(digits[:2], 16) ^ 1:02x}{digits[2:]}#{tail} {KA} sig)"
 
 
 def case_by_hash(behind: str, is_changed: bool = False) -> bytes:
-    """A case with a certificate by the hash of KA, and the items `behind` it (a text, as KA is). `is_changed`: its signature has a wrong digest."""
+    """A case with a certificate whose issuer is the hash of KA, and the text `behind` it: KA or nothing. `is_changed`: the signed digest is wrong."""
     hashed = cert(chains.digest(KA), KB, "(tag (*))")
     return case(ALL, row(hashed, KA), (signed_wrongly(hashed) if is_changed else signed(hashed, KA)) + behind)
 
 
 def delegation(rows: str, signer: str) -> bytes:
-    """A case in which KA delegates its right to KB, with these rows and this signer of the certificate."""
+    """A case in which KA delegates its right to KB, with these rows and this signer of the certificate, which is wrong if it is not KA."""
     return case(ALL, rows, signed(C1, signer))
 
 
@@ -60,7 +61,8 @@ def members_of(text: bytes) -> Any:
 
 
 def of_verifiers() -> Iterator[CallRow]:
-    """Evidence and decisions, by the case's own list and by other verifiers."""
+    """What calls answer to cases by a verifier: the rows of the case, others, `all` (which accepts each signature) or `broken` (which lacks memory).
+    `judge` answers the first item that fails a test of evidence and the cause, or how many certificates pass."""
     right, none = delegation(row(C1, KA), KA), delegation("", KA)
     other, shown = delegation(row(C1, KB), KB), case_by_hash(KA)
     differs = case_by_hash(KA, is_changed=True)
@@ -84,9 +86,9 @@ def of_verifiers() -> Iterator[CallRow]:
          b"[Stopped { item: 1, cause: NotIssuer }, NotTheKey]"),
         ("not-accepted", "explain", none, NO_ROWS, b"1 NotAccepted"),
         ("not-accepted", "reduce_case", none, NO_ROWS, b"1 NotAccepted"),
-        ("reduced-sets", "reduce_case", *reduced_sets("(* set write (* prefix re))"),
+        ("reduced-sets", "reduce_case", *case_of_sets("(* set write (* prefix re))"),
          b"(4:five(7:subject(10:public-key(4:test1:b)))(3:tag(1:*3:set4:read5:write)))\n"),
-        ("reduced-sets, other tag", "reduce_case", *reduced_sets("x"), b"1 NoTag\n"),
+        ("reduced-sets, other tag", "reduce_case", *case_of_sets("x"), b"1 NoTag\n"),
     ]:
         yield CallRow(f"calls/cases:{name}", call, (text, rows), wanted)
     for name, text, verifier, wanted in [
@@ -96,21 +98,21 @@ def of_verifiers() -> Iterator[CallRow]:
     ]:
         parts = parts_of(text)
         for call in ("PreparedQuestion::decide", "PreparedQuestion::grant"):
-            yield CallRow(f"calls/cases:{name}: {call}", call, (parts[0], parts[5], b"", b"", *parts[1:5], verifier), wanted)
+            yield CallRow(f"calls/cases:{name}: {call}", call, (parts[0], parts[5], *NO_LIMITS, *parts[1:5], verifier), wanted)
     for call in ("decide", "explain", "reduce_case"):
         yield CallRow(f"calls/cases:broken: {call}", call, (none, b"broken"), b"refused Memory")
     yield CallRow("calls/cases:first-run", "Case::read", (first_run(),), b"1 0")
 
 
-def reduced_sets(tag: str) -> tuple[bytes, bytes]:
-    """A case of an entry for the set of read and write and of a certificate for a tag, and the text of its rows."""
+def case_of_sets(tag: str) -> tuple[bytes, bytes]:
+    """A case with an entry for the set of read and write and a certificate with this tag, and the text of its rows."""
     certificate = cert(KA, KB, f"(tag {tag})")
     text = case(entry("a", "(propagate) (tag (* set read write))"), row(certificate, KA), signed(certificate, KA))
     return text, rows_of(text)
 
 
 def of_separate_rows() -> Iterator[CallRow]:
-    """Decisions by separate rows. A fault of the case is reported before one of the rows."""
+    """Decisions on a case and the text of its accepted signatures. A fault of the case is reported before one of that text."""
     text, rows = delegation(row(C1, KA), KA), canonical(f"(accepted {row(C1, KA)})")
     for name, case_text, rows_text, wanted in [
         ("row", text, rows, b"Done yes entry 1\n"), ("no row", text, b"(accepted)", b"No no\n"),
@@ -124,7 +126,7 @@ def of_separate_rows() -> Iterator[CallRow]:
 
 
 def of_revoked_keys() -> Iterator[CallRow]:
-    """What `test_callers` decides of a case in which KA delegates its right to KB, while some keys are revoked."""
+    """What `decide_unrevoked`, and `answer_both` to KB and to KA, say of a case in which KA delegates its right to KB, with some keys revoked."""
     text = case(entry("a"), row(C1, KA), signed(C1, KA))
     parts, rows = parts_of(text)[:5], rows_of(text)
     ka, kb = canonical(KA), canonical(KB)
@@ -145,26 +147,26 @@ def parts_of(text: bytes) -> list[bytes]:
 
 
 def answer_of(wish: str, parts: list[bytes], rows: bytes) -> tuple[guard.Answer, list[guard.Signed]]:
-    """What the model answers to the parts of a case (`parts_of`) by the text of its rows, and the signatures that it lists. `wish` is `decide`,
-    `explain` or `reduce`."""
+    """What the model answers to the parts of a case (`parts_of`) and its rows, and the signatures of it. `wish`: `decide`, `explain` or `reduce`."""
     question, policy = guard.Parts(*parts[1:5]), guard.OPEN if parts[5] == b"open" else guard.STRICT
-    return guard.answer(wish, parts[0], question, cases.read_rows(forms.read(rows)), policy, guard.USUAL, "")
+    return guard.answer(wish, parts[0], question, cases.read_rows(forms.read(rows)), policy, guard.USUAL, oddity="")
 
 
 def in_debug(wish: str, answer: bytes) -> bytes:
     """The lines of an answer as `test_one_call` writes the result: as a value of Rattle, such as `Yes(1)`, or for `reduce` in canonical form."""
     if wish == "decide":
-        return b"No" if answer == b"no\n" else b"Yes(%s)" % answer.split()[2]
-    if answer.startswith(b"item "):
+        return b"No" if answer == b"no\n" else b"Yes(%s)" % answer.split()[2]  # (`yes entry N`)
+    if answer.startswith(b"item "):  # (this item fails a test of evidence)
         return answer[len(b"item "):-1]
     lines = [ENTRY.sub(b"", line, count=1) for line in answer.split(b"\n")[:-1] if line != b"no entries"]
     if wish == "reduce":
+        # (each line is an authorization, `(five ..)`, or the item at which the chain stops)
         return b"".join((written(forms.read(line)) if line.startswith(b"(") else line.removeprefix(b"item ")) + b"\n" for line in lines)
     return b"[%s]" % b", ".join(reason(line) for line in lines)
 
 
 def reason(line: bytes) -> bytes:
-    """What a line of an explanation says of an entry, as a value of Rattle: `Stopped { .. }`, `Grants`, or the word of the line."""
+    """What a line of an explanation says behind `entry N`, as a value of Rattle: `Stopped { .. }`, `Grants`, or the word of the line."""
     stop = re.fullmatch(rb"item (\d+) (\w+)", line)
     return b"Stopped { item: %s, cause: %s }" % stop.groups() if stop else line.replace(b"grants", b"Grants")
 
@@ -190,7 +192,7 @@ def example_cases() -> Iterator[tuple[str, bytes]]:
 
 
 def of_questions() -> Iterator[CallRow]:
-    """Each of `example_cases`, as a case and as a question to a guard of its list, whose parts are in each form."""
+    """Each of `example_cases`, as a case and as a question to a guard of its list. The parts of the question are in each of the three forms."""
     for name, text in example_cases():
         rows, parts = rows_of(text), parts_of(text)
         for wish, call in (("decide", "decide"), ("explain", "explain"), ("reduce", "reduce_case")):
@@ -203,8 +205,8 @@ def of_questions() -> Iterator[CallRow]:
 
 def of_question(place: str, wish: str, parts: list[bytes], rows: bytes, answer: bytes, listed: list[guard.Signed]) -> Iterator[CallRow]:
     """The rows of one question, by each call that can answer it. `parts` are as `parts_of` returns them, `rows` is the text of the accepted
-    signatures, and `answer` and `listed` are the lines and the signatures of the model."""
-    opening, question, marks, result = (parts[0], parts[5], b"", b""), tuple(parts[1:5]), marks_of(rows, listed), in_debug(wish, answer)
+    signatures, `answer` are the lines that the model answers, and `listed` the signatures of the question, which marks accept or not."""
+    opening, question, marks, result = (parts[0], parts[5], *NO_LIMITS), tuple(parts[1:5]), marks_of(rows, listed), in_debug(wish, answer)
     yield CallRow(f"{place} {wish}", f"PreparedQuestion::{wish}", (*opening, *question, rows), result)
     yield CallRow(f"{place} {wish}_by", f"PreparedQuestion::{wish}_by", (*opening, *question, marks), result)
     if wish == "reduce":
@@ -215,9 +217,9 @@ def of_question(place: str, wish: str, parts: list[bytes], rows: bytes, answer: 
         policy = guard.OPEN if parts[5] == b"open" else guard.STRICT
         is_possible = guard.is_possible(parts[0], guard.Parts(*question), policy, guard.USUAL)
         for call in ("PreparedQuestion::is_possible", "OwnedQuestion::is_possible"):
-            for some_marks in sorted({marks, b""}):
+            for some_marks in sorted({marks, b""}):  # (on which the answer does not depend)
                 yield CallRow(f"{place} {call}, {len(some_marks)} marks", call, (*opening, *question, some_marks), b"yes" if is_possible else b"no")
-        yield CallRow(f"{place} other marks", "answer_opened", (*opening, b"decide", *question, marks + b"1"), b"other marks")
+        yield CallRow(f"{place} other marks", "answer_opened", (*opening, b"decide", *question, marks + b"1"), b"other marks")  # (one too many)
         yield CallRow(f"{place} opened", "OwnedQuestion::decide_by", (*opening, *question, marks), result)
         texts = b"".join(text + b"\n" for signed_texts in listed for text in signed_texts)
         yield CallRow(f"{place} signed", "OwnedQuestion::signed", (*opening, *question), texts)
@@ -230,5 +232,5 @@ def is_done(answer: bytes) -> bool:
 
 def marks_of(rows: bytes, listed: list[guard.Signed]) -> bytes:
     """The marks of a question's signatures: `1` for each that a row accepts, `0` for each other."""
-    accepted = {(it.key.octets, it.digest, it.value) for it in cases.read_rows(forms.read(rows))}
+    accepted = {(each.key.octets, each.digest, each.value) for each in cases.read_rows(forms.read(rows))}
     return b"".join(b"1" if (signer, hashlib.sha256(message).digest(), value) in accepted else b"0" for signer, message, value in listed)

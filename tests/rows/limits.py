@@ -1,4 +1,5 @@
-"""Texts at the limits from both sides, with the answers that docs/FORMATS.md has for them."""
+"""Texts at the limits from both sides, with the answers that docs/FORMATS.md has for them: pairs of an exit status and the octets or text that are
+printed. Cases are composed as in chains.py: keys are letters, and unless `asks` or `request` says otherwise, key d asks for `(ftp)`."""
 from harness.support import braced
 from rows import chains
 from rows.chains import NO, YES, case, cert, entry, key, numbered, octets_of, refused, rows_and_items
@@ -15,7 +16,7 @@ def strings(count, each="a"):
 
 
 def one_string(size, form):
-    """A text of `size` octets with one string, in a form of FORMS, and the canonical form of the string. Spaces behind it fill the last octets."""
+    """A text of `size` octets with one string, in a form of FORMS, and the canonical form of the string. Spaces at the end fill the text up."""
     # (how many octets of the string fit: beside its length and colon, two quotes, or two braces around base64, which has 4 octets for 3)
     room = {"canonical": size - len(f"{size}:"), "advanced": size - 2, "braces": (size - 2) // 4 * 3 - len(f"{size}:")}[form]
     octets = b"x" * room
@@ -25,7 +26,7 @@ def one_string(size, form):
 
 
 def lengths():
-    """Yields (name, command, text, answer): a string and whitespace of 1,048,576 octets, and of 1, 2 or as many again more; and a case."""
+    """Yields (name, command, text, answer): a string and whitespace of 1,048,576 octets, or of 1, 2 or 1,048,576 more; and a case with whitespace."""
     for form in FORMS:
         text, canonical = one_string(MOST_OCTETS, form)
         name = f"{len(text)} octets in {form} form"
@@ -35,7 +36,7 @@ def lengths():
         for command, shape in STRUCTURES.items():
             yield name, command, text, refused(shape if len(canonical) <= MOST_OCTETS else "form TooLong")
         for more in (1, 2, MOST_OCTETS):
-            text = one_string(MOST_OCTETS + more, form)[0]
+            text, _ = one_string(MOST_OCTETS + more, form)
             for command in (*CONVERSIONS, *STRUCTURES):
                 yield f"{len(text)} octets in {form} form", command, text, refused("form TooLong")
     whole = case(entry("a"), asks=key("a")).encode()
@@ -66,8 +67,8 @@ def lists_in_lists():
 
 
 def deep_parts():
-    """Yields (name, command, text, answer): requests and tags as deep as may be, and deeper by one list. Of the 64 lists 2 are around a request, 4
-    around a tag in a case, and 1 around a tag in an `intersect`."""
+    """Yields (name, command, text, answer): requests and tags as deep as may be, and deeper by one list. Of the 64 lists that may be open at once, 2
+    are around a request, 4 around a tag in a case, and 1 around a tag in an `intersect`."""
     def nested(depth):
         """The text of so many lists, each inside the one before."""
         return "(f " * depth + "f" + ")" * depth
@@ -91,7 +92,7 @@ def nodes():
         yield "the second tag", "intersect", f"(intersect (*) {fits})", (0, fits + "\n")
         yield "the first tag", "intersect", f"(intersect {larger} (*))", refused("tag 1 TooManyNodes")
         yield "the second tag", "intersect", f"(intersect (*) {larger})", refused("tag 2 TooManyNodes")
-        request = "a" if head == "* set" else fits
+        request = "a" if head == "* set" else fits  # (one that the tag `fits` contains)
         for tag, in_entry, in_certificate in ((fits, YES, YES), (larger, refused("acl 1 Tag TooManyNodes"), refused("sequence 1 Tag TooManyNodes"))):
             shown = rows_and_items((cert(key("a"), key("d"), f"(tag {tag})"), key("a")))
             yield "an entry's tag", "check", case(entry("a", f"(tag {tag})"), asks=key("a"), request=request), in_entry
@@ -101,7 +102,7 @@ def nodes():
 def products():
     """Yields (name, command, text, answer): products of two tags' nodes around 1,000,000."""
     def sets(one, other):
-        """The text for the intersection of two sets, whose members are these texts."""
+        """The text for the intersection of two sets of these members. A set is a node more than its members, and keeps equal ones."""
         return f"(intersect (* set {one}) (* set {other}))"
 
     yield "1,024 nodes and 976", "intersect", sets(strings(1023), strings(975)), (0, f"(* set {strings(1023 * 975)})\n")
@@ -117,9 +118,9 @@ def products():
 
 
 def work():
-    """Yields (name, command, text, answer): entries and certificates whose work is 2,300,000,000, and more. Each of 23 entries has 1,000 nodes, each
-    of which costs 32, 15 times the 4 nodes of the first certificate, its 4 tags and its 99,904 octets. Then nothing is left of the tags. The second
-    certificate has 336 nodes, so that the product of all is over 1,000,000."""
+    """Yields (name, command, text, answer): entries and certificates whose work is 2,300,000,000, the limit, and more. The tags of 23 entries have
+    1,000 nodes each. By the first certificate, whose tag has 4 nodes and 99,904 octets, each costs 32 + 15 * 4 + 4 + 99,904 = 100,000. Then nothing
+    is left of the tags. The second certificate's tag has 336 nodes: the product 1,000 * 4 * 336 is over 1,000,000, up to which no work counts."""
     def chain_of(more, *tags):
         """The rows and the items of the first certificate, whose tag has so many octets more, and of a further one for each of these tags."""
         first = cert(key("a"), key("b"), f"(propagate) (tag (* set r {'x' * 49_951} {'y' * (49_952 + more)}))")

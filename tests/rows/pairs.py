@@ -1,5 +1,5 @@
-"""All pairs of sets with at most two members out of some. The intersection of two sets is the set of the intersections of their members,
-each with each, in the order of the first set's members and then of the second's. Intersections `(* set)` are left out."""
+"""All pairs of sets with at most two of the tags in MEMBERS. The intersection of two sets is the set of the intersections of their members,
+each with each, in the order of the first set's members and then of the second's. Empty intersections, `(* set)`, are left out."""
 from itertools import product
 
 MEMBERS = (b"a", b"ab", b"(* prefix a)", b"(* range alpha ge ab)", b"(f)", b"(f a)", b"(g (* set a b))")

@@ -2,7 +2,7 @@
 docs/FORMATS.md, the seconds by `date -u -d 'YYYY-MM-DD HH:MM:SS' +%s`."""
 from rows.chains import cert, entry, key, signed
 
-NO_END = 2**63 - 1
+NO_END = 2**63 - 1  # (the greatest number of 64 bits: what the library says where no window ends)
 GROUP = f"(name {key('a')} friends)"
 # Of each row: its name; the limits of the entry, of a certificate by a and of a definition of a's name, each a date or none; the moment; and
 # the last second.
@@ -32,8 +32,8 @@ def window_until(limit):
 
 
 def parts_of(of_entry, of_certificate, of_definition):
-    """The list, the sequence and the key of a chain: an entry for a, a certificate by a for its friends, and a definition by which c is one. Each
-    argument is the last moment of one of these, or empty for none."""
+    """The list, the sequence and the key that asks, c, as texts: an entry for a, a certificate by a for the name `friends` of a, and a definition by
+    which c is a member of that name. The arguments are the last moments of the entry, the certificate and the definition, each empty for none."""
     right = cert(key("a"), GROUP, f"(tag (*)) {window_until(of_certificate)}")
     friend = f"(cert (issuer {GROUP}) (subject {key('c')}) {window_until(of_definition)})"
     acl = f"(acl {entry('a', f'(propagate) (tag (*)) {window_until(of_entry)}')})"

@@ -1,5 +1,5 @@
 """The table of wrong uses: what happens where a call of the bindings is held wrong. Each row is the body of a function in a file of `wrong_uses/`,
-one for each language, behind what all rows there share. A row says that it does not compile, is refused, is denied, or is granted."""
+one for each language, behind the code that all its rows share. A row begins with `--- OUTCOME: NAME` or `--- OUTCOME, PATTERN OF COMPILER: NAME`."""
 import os
 import re
 from collections.abc import Iterator
@@ -29,7 +29,7 @@ MAINS = {
 
 @dataclass(frozen=True)
 class Row:
-    """A wrong use in a language: its place in the file, from 0, its outcome, a pattern for what the compiler prints (or ""), its name and code."""
+    """A wrong use in a language: its place in the file, from 0, its outcome, the pattern for what the compiler prints (or ""), its name and code."""
 
     language: str
     place: int
@@ -39,23 +39,23 @@ class Row:
     code: str
 
     def function(self) -> str:
-        """The source of the function of this row, in its language."""
-        head, front, end = FUNCTIONS[self.language]
-        return "\n".join([head.format(self.place), *(front + line for line in self.code.splitlines()), end, ""])
+        """The source of a function `row_N` with the code of this row, N being its place."""
+        head, indentation, end = FUNCTIONS[self.language]
+        return "\n".join([head.format(self.place), *(indentation + line for line in self.code.splitlines()), end, ""])
 
 
 def parts_of(language: str) -> tuple[str, list[Row]]:
-    """The code that all rows of a language share, and the rows."""
+    """The code that all rows of a language share, which ends at the line `ROWS`, and the rows."""
     with open(os.path.join(FOLDER, language), encoding="utf-8") as file:
         shared, _, rest = file.read().partition("ROWS\n")
-    heads = list(HEAD.finditer(rest))
+    heads = list(HEAD.finditer(rest))  # (the groups of a head: outcome, pattern or None, name)
     ends = [*(head.start() for head in heads[1:]), len(rest)]
     rows = enumerate(zip(heads, ends))
     return shared, [Row(language, place, head[1], head[2] or "", head[3], rest[head.end() + 1:end]) for place, (head, end) in rows]
 
 
 def program_of(shared: str, rows: list[Row]) -> tuple[str, dict[int, Row]]:
-    """The text of a program with these rows, which are of one language, and the row of each line that is in one, by the line's number, from 1."""
+    """The text of a program that does these rows, all of one language, and for the number, from 1, of each line in a row's function, that row."""
     text, lines = shared + "\n", {}
     for row in rows:
         first = text.count("\n") + 1
@@ -66,11 +66,12 @@ def program_of(shared: str, rows: list[Row]) -> tuple[str, dict[int, Row]]:
 
 
 def faults_in(output: str, path: str, lines: dict[int, Row]) -> Iterator[tuple[Row, str]]:
-    """Each row whose lines a compiler names in its output, and what it says there: from the line that it names before, up to the next. `path` is that
-    of the source, and `lines` are those of `program_of`."""
-    named = list(re.finditer(rf"{re.escape(os.path.basename(path))}:(\d+)", output))
-    for place, (at, end) in enumerate(zip(named, [*(it.start() for it in named[1:]), len(output)])):
-        if int(at[1]) in lines:
-            # (the fault of a template precedes the line that uses it)
-            before = named[place - 1].start() if place else 0
-            yield lines[int(at[1])], output[before:end]
+    """Each row whose lines a compiler names in its output, as `FILE:LINE`, and what it says of it: the output from the name before this one up to
+    the next. `path` is that of the source, and `lines` has the row of each line, as `program_of` returns it."""
+    names = list(re.finditer(rf"{re.escape(os.path.basename(path))}:(\d+)", output))
+    ends = [*(name.start() for name in names[1:]), len(output)]
+    for place, (name, end) in enumerate(zip(names, ends)):
+        if int(name[1]) in lines:
+            # (a compiler reports the fault of a template before it names the line that uses it)
+            begin = names[place - 1].start() if place else 0
+            yield lines[int(name[1])], output[begin:end]
