@@ -475,9 +475,12 @@ func (s *site) putAttacks(bobs, other string) map[string]func(*http.Request) {
 		return func(request *http.Request) { request.Header.Set(name, value) }
 	}
 	return map[string]func(*http.Request){
-		"another body":   body(other),
-		"an empty body":  body(""),
-		"half a body":    func(request *http.Request) { body(bobs[:len(bobs)/2])(request); request.ContentLength = int64(len(bobs)) },
+		"another body":  body(other),
+		"an empty body": body(""),
+		"half a body": func(request *http.Request) {
+			body(bobs[:len(bobs)/2])(request)
+			request.ContentLength = int64(len(bobs))
+		},
 		"a longer body":  body(bobs + " "),
 		"no length":      func(request *http.Request) { request.ContentLength = -1 },
 		"another digest": set("Content-Digest", httpsig.ContentDigest([]byte(other))),

@@ -79,7 +79,8 @@ def row_test(name: str) -> Callable[[OfCalls], None]:
 def class_of_rows(name: str, rows: Iterable[CallRow], path: str) -> type:
     """A class of this name with a test for each of these rows. The program at `path` answers them."""
     named = {f"test_{row.place}:{row.call}": row for row in rows}
-    return type(name, (OfCalls,), {"path": path, "rows": named, **{each: row_test(each) for each in named}})
+    tests = {each: row_test(each) for each in named}
+    return type(name, (OfCalls,), {"path": path, "rows": named} | tests)
 
 
 def add_classes() -> None:

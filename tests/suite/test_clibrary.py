@@ -135,7 +135,8 @@ def questions_by_hand():
         ("rows in braces: `(8:accepted)` in base64", bare, b"{KDg6YWNjZXB0ZWQp}", no),
         ("a text that is no case", b"(case)", rows, (2, b"refused case Shape\n")), ("no text", b"", rows, (2, b"refused form Short\n")),
         ("a case too long", bare + spaces, rows, (2, b"refused form TooLong\n")),
-        ("own rows that are none", bare.replace(NO_ROWS, b"(accepted (by))"), rows, (2, b"refused accepted 1 Shape\n"))]:
+        ("own rows that are none", bare.replace(NO_ROWS, b"(accepted (by))"), rows, (2, b"refused accepted 1 Shape\n")),
+    ]:
         yield (name, CHECK_ACCEPTED, text, listed), answer
 
 

@@ -69,7 +69,8 @@ def chain_requests(story: LastingStory) -> Iterator[tuple[str, Sent, bool]]:
         "nothing is shown": "(sequence)", "an item is none": "(sequence (certificate))", "it is no sequence": "(key x)",
         # (with the two of Alice 17, one more than a guard takes)
         "there are too many certificates": story.sequence(good + 14 * f" {good}"),
-        "two sequences": tools.canonical(right) + b"(8:sequence)", "no octets": b"", "half a sequence": tools.canonical(right)[:-1]}.items():
+        "two sequences": tools.canonical(right) + b"(8:sequence)", "no octets": b"", "half a sequence": tools.canonical(right)[:-1],
+    }.items():
         yield remark, asked_by(carol, READ, sequence), False
     yield "another holder asks", asked_by(bob, READ, right), False
     yield "the path has parentheses and quotes", asked_by(carol, PASTED, right), False
@@ -102,7 +103,8 @@ def proof_requests(story: LastingStory) -> Iterator[tuple[str, Sent, bool]]:
         "a line without a colon": (method, target, {"X-Odd": "1\r\nodd", **fields}),
         "a body that is not signed": (method, target, {**fields, "Content-Length": "1"}),
         # (the service in C reads up to 64 fields)
-        "70 fields and a body": (method, target, {**fields, **{f"x-{place}": "" for place in range(70)}, "Content-Length": "1"})}.items():
+        "70 fields and a body": (method, target, {**fields, **{f"x-{place}": "" for place in range(70)}, "Content-Length": "1"}),
+    }.items():
         yield remark, sent, False
     yield "and then it is granted, once", (method, target, fields), True
 

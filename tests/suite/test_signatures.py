@@ -158,7 +158,8 @@ class SpkiCertRequest(unittest.TestCase):
             (["--by", "p256", "https://a/#b"], "no address"), (["--by", "p256", "--method", "get", self.url], "capital letters"),
             (["--by", "p256", self.url, "--", "-s"], "--curl"), (["--by", "p256", "--body", "nobody", self.url], "nobody: No such file"),
             (["--by", "p256", "--cert", "p256.pub", self.url], "p256.pub"), (["--by", "p256.pub", self.url], "SSH_AUTH_SOCK is not set"),
-            (["--by", "p256", "https://ä/"], "not ASCII"), (["--by", "p256", "http://[::1/"], "IPv6")):
+            (["--by", "p256", "https://ä/"], "not ASCII"), (["--by", "p256", "http://[::1/"], "IPv6"),
+        ):
             self.assertIn(message, self.output("request", *words, wanted=2), words)
 
     @needs.needs("ssh-keygen")

@@ -90,7 +90,8 @@ def remarks_on_key_file(path: str, octets: bytes) -> tuple[str, list[Remark]]:
                 on_keys.append(Remark(path, *lines.line_and_column(begin), True, text))
     on_keys += [Remark(path, 1, 1, False, why.removeprefix(f"{path} is ")) for why in remark_on_mode(path)]
     if len(pieces) > MOST_KEYS:
-        on_keys.append(Remark(path, *lines.line_and_column(pieces[MOST_KEYS][0]), False, f"only the first {MOST_KEYS} of these keys are looked at: split the file"))
+        place = lines.line_and_column(pieces[MOST_KEYS][0])
+        on_keys.append(Remark(path, *place, False, f"only the first {MOST_KEYS} of these keys are looked at: split the file"))
     return f"{len(pieces)} public keys" if len(pieces) > 1 else kind, on_keys
 
 
