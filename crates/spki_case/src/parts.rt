@@ -54,7 +54,7 @@ fn take_part<'d, 'a>(members: Members<'d, 'a>, word: &[u8]) -> Option<TakenPart<
 }
 
 /// The only member, such as K if `members` are those of `(key K)` after the head. None if there is no member, or more than one.
-fn sole<'d, 'a>(members: Members<'d, 'a>) -> Option<Node<'d, 'a>>
+fn only_member<'d, 'a>(members: Members<'d, 'a>) -> Option<Node<'d, 'a>>
     ensures { MatchOption result ((v : Value) → members.entry ≢ v ∷ []) (λ v. members.entry ≡ v ∷ []) }
 {
     let (only, rest) = members.split_first()?;
@@ -65,7 +65,7 @@ fn sole<'d, 'a>(members: Members<'d, 'a>) -> Option<Node<'d, 'a>>
 fn is_word(members: Members, word: &[u8]) -> bool
     ensures { MatchBool result (members.entry ≡ plain word.now ∷ []) (members.entry ≢ plain word.now ∷ []) }
 {
-    let Some(only) = sole(members) else {
+    let Some(only) = only_member(members) else {
         return false;
     };
     match only.plain_octets() {
@@ -83,7 +83,7 @@ fn policy_in(members: Members) -> Option<Policy>
     if members.is_empty() {
         return Some(Policy::Open);
     }
-    let only = sole(members)?;
+    let only = only_member(members)?;
     let strict = only.headed(b"policy")?;
     if is_word(strict, b"strict") {
         Some(Policy::Strict)
@@ -119,9 +119,9 @@ fn parts_in<'d, 'a>(members: Members<'d, 'a>) -> Option<Parts<'d, 'a>>
         acl: acl.node,
         rows: accepted.members,
         sequence: sequence.node,
-        key: sole(key.members)?,
-        request: sole(request.members)?,
-        at: sole(at.members)?,
+        key: only_member(key.members)?,
+        request: only_member(request.members)?,
+        at: only_member(at.members)?,
         policy,
     })
 }

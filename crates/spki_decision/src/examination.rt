@@ -107,7 +107,7 @@ fn examine_by<'a>(
     let mut steps = Vec::new(alloc);
     let mut signed = Vec::new(alloc);
     for shown in &certificates {
-        match test(alloc, shown, keys, policy)? {
+        match test_certificate(alloc, shown, keys, policy)? {
             Tested::Passes(one) => add_passed(&mut steps, &mut signed, &shown.certificate, one)?,
             Tested::Fails(stop) => {
                 drop(steps);
@@ -142,7 +142,7 @@ fn add_passed<'a>(
 /// key is `holder`. The digest in its signature is that of the certificate's octets. The signer in the signature names `holder`. Returns the
 /// signature, or the first test that is not passed. The certificate must have a signature, so `unreachable!()` is not reached. `keys`, those
 /// of the sequence, are `&mut` since an index may be added; the keys stay the same. Err if memory ran out.
-fn test<'a>(
+fn test_certificate<'a>(
     alloc: Global,
     shown: &ShownCert<'_, 'a>,
     keys: &mut ShownKeys<'a>,

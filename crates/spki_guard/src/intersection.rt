@@ -57,7 +57,7 @@ struct Operands<'d, 'a> {
 }
 
 /// The two values of `members`, which are those behind the word `intersect`. None if there are not exactly two.
-fn two<'d, 'a>(members: Members<'d, 'a>) -> Option<Operands<'d, 'a>>
+fn exactly_two<'d, 'a>(members: Members<'d, 'a>) -> Option<Operands<'d, 'a>>
     ensures { MatchOption result ((a b : Value) → members.entry ≢ a ∷ b ∷ [])
         (λ p. members.entry ≡ p.first ∷ p.second ∷ []) }
 {
@@ -75,7 +75,7 @@ fn operands_of<'d, 'a>(node: &Node<'d, 'a>) -> Option<Operands<'d, 'a>>
     ensures { MatchOption result ((a b : Value) → node.now ≢ intersect_value a b)
         (λ p. node.now ≡ intersect_value p.first p.second) }
 {
-    two(node.headed(b"intersect")?)
+    exactly_two(node.headed(b"intersect")?)
 }
 
 /// The error of `intersect` if tag A of `(intersect A B)` has this fault: `Memory` if memory ran out, otherwise `First` with the fault.
@@ -100,7 +100,7 @@ fn fault_of_second(fault: TagFault) -> IntersectFault
 
 /// Returns the intersection of the tags A and B of the value `(intersect A B)`. Err is `Shape` if the value is no such list, `First` if A is no
 /// tag, `Second` if B is none, `TooLarge` if the product of their nodes is over 1,000,000, tested in this order; or `Memory`.
-fn meet_in(alloc: Global, node: &Node) -> Result<Tag, IntersectFault>
+fn intersection_in(alloc: Global, node: &Node) -> Result<Tag, IntersectFault>
     ensures read { IfOk result (λ tag. Intersects node.now tag) }
     ensures refused { IfErr result (λ fault. fault ≢ IntersectFault.Memory → ValueNotMet node.now fault) }
 {
@@ -138,7 +138,7 @@ pub fn intersect(alloc: Global, text: &[u8]) -> Result<Tag, IntersectFault>
     ensures refused { IfErr result (λ fault. fault ≢ IntersectFault.Memory → TextNotMet text.now fault) }
 {
     match Doc::open(alloc, text) {
-        Ok(document) => meet_in(alloc, &document.top()),
+        Ok(document) => intersection_in(alloc, &document.top()),
         Err(FormFault::Memory) => Err(IntersectFault::Memory),
         Err(fault) => Err(IntersectFault::Form(fault)),
     }

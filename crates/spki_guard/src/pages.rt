@@ -38,7 +38,7 @@ fn write_unless_failed<W: Write>(
 }
 
 /// Appends octets to a page, if it has room for all of them. Returns whether it had. If not, the page does not change.
-fn hold(page: &mut ArrayVec<u8, 4096>, octets: &[u8]) -> bool
+fn append_if_room(page: &mut ArrayVec<u8, 4096>, octets: &[u8]) -> bool
     ensures held { IsTrue result → page.new.items ≡ page.old.items ++ octets.now }
     ensures full { result ≡ false → page.new ≡ page.old }
 {
@@ -46,7 +46,7 @@ fn hold(page: &mut ArrayVec<u8, 4096>, octets: &[u8]) -> bool
 }
 
 /// Appends an octet to a page, if it has room. Returns whether it had. If not, the page does not change.
-fn hold_octet(page: &mut ArrayVec<u8, 4096>, octet: u8) -> bool
+fn append_octet_if_room(page: &mut ArrayVec<u8, 4096>, octet: u8) -> bool
     ensures held { IsTrue result → page.new.items ≡ page.old.items ++ octet ∷ [] }
     ensures full { result ≡ false → page.new ≡ page.old }
 {
@@ -91,7 +91,7 @@ impl<'w, W: Write> PageSink<'w, W> {
         requires { page_of self.old ≡ [] }
         ensures { PageTakes W.contents self.old octets.now self.new }
     {
-        if hold(&mut self.page, octets) {
+        if append_if_room(&mut self.page, octets) {
             return;
         }
         self.failed = write_unless_failed(self.writer, self.failed, octets, self.most);
@@ -133,7 +133,7 @@ impl<'w, W: Write> Sink for PageSink<'w, W> {
     /// Keeps the octets in the page. If they do not fit, writes the page first, and the octets too if they are longer
     /// than a page.
     fn put(&mut self, octets: &[u8]) {
-        if hold(&mut self.page, octets) {
+        if append_if_room(&mut self.page, octets) {
             return;
         }
         self.write_page();
@@ -142,7 +142,7 @@ impl<'w, W: Write> Sink for PageSink<'w, W> {
 
     /// Keeps one octet in the page. If the page is full, writes it first.
     fn put_octet(&mut self, octet: u8) {
-        if hold_octet(&mut self.page, octet) {
+        if append_octet_if_room(&mut self.page, octet) {
             return;
         }
         self.write_page();

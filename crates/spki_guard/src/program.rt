@@ -95,8 +95,8 @@ fn report<E: Write>(errors: &mut Metered<E>, status: Status)
     ensures { IsReported E.contents errors.old errors.new status }
 {
     match status {
-        Status::ReadFault => say(errors, b"spki: read fault\n"),
-        Status::WriteFault => say(errors, b"spki: write fault\n"),
+        Status::ReadFault => write_message(errors, b"spki: read fault\n"),
+        Status::WriteFault => write_message(errors, b"spki: write fault\n"),
         Status::Answered(_) => errors.restart(),
     }
 }
@@ -129,11 +129,11 @@ fn write_words_fault<W: Write, E: Write>(
     match fault {
         WordsFault::Refused(text) | WordsFault::Help(text) => {
             writer.restart();
-            say(errors, text.as_bytes());
+            write_message(errors, text.as_bytes());
         }
         WordsFault::Memory => {
             errors.restart();
-            say(writer, REFUSED_MEMORY);
+            write_message(writer, REFUSED_MEMORY);
         }
     }
 }
@@ -141,7 +141,7 @@ fn write_words_fault<W: Write, E: Write>(
 /// Resets the writer's meter, writes a message, and flushes the writer. If the writer fails, a beginning of the message is written, which
 /// may be none or all of it. The failure is ignored, since the exit status is that of what the message says, whether it arrives or not. The
 /// `if` is there only because a result must be used.
-fn say<W: Write>(writer: &mut Metered<W>, octets: &[u8])
+fn write_message<W: Write>(writer: &mut Metered<W>, octets: &[u8])
     ensures { IsSaid W.contents writer.old writer.new octets.now }
 {
     writer.restart();

@@ -36,7 +36,7 @@ fn answer_apart(alloc: Global, text: &[u8], rows: &[u8]) -> Answer<'static>
     ensures answer { PrintsAs (IsAnswerApart text.now rows.now) result }
     ensures too_long { 1048576 < length text.now → result ≡ Answer.Refused (Refusal.Form FormFault.TooLong) }
 {
-    match checked(alloc, text, rows) {
+    match decide_texts(alloc, text, rows) {
         Ok(answer) => answer,
         Err(refusal) => Answer::Refused(refusal),
     }
@@ -44,7 +44,7 @@ fn answer_apart(alloc: Global, text: &[u8], rows: &[u8]) -> Answer<'static>
 
 /// Decides the case in `text` by the accepted list in `rows`, for `answer_apart`. Err if one of the texts is refused, the case is
 /// too large, or memory ran out. A canonical text is neither copied nor converted.
-fn checked(alloc: Global, text: &[u8], rows: &[u8]) -> Result<Answer<'static>, Refusal>
+fn decide_texts(alloc: Global, text: &[u8], rows: &[u8]) -> Result<Answer<'static>, Refusal>
     ensures answered { IfOk result (PrintsAs (DecidesApart text.now rows.now)) }
     ensures refused { IfErr result (λ refusal. RefusesApart text.now rows.now refusal) }
     ensures too_long { 1048576 < length text.now → IsErrOf result (Refusal.Form FormFault.TooLong) }

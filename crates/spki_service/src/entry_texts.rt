@@ -24,12 +24,12 @@ pub(crate) fn entry_texts(alloc: Global, list: &Node, count: usize) -> Result<Te
     let Some(members) = list.headed(b"acl") else {
         return Ok(TextList::new(alloc));
     };
-    Ok(last(member_texts(alloc, members)?, count))
+    Ok(last_texts(member_texts(alloc, members)?, count))
 }
 
 /// Returns the last `count` of the texts: those of an access list's entries. There must be `count` texts, or one more, which is first: the
 /// list's version.
-fn last(texts: TextList, count: usize) -> TextList
+fn last_texts(texts: TextList, count: usize) -> TextList
     ensures all { length texts ≡ count → result ≡ texts }
     ensures behind { length texts ≡ 1 + count → result ≡ drop 1 texts }
 {

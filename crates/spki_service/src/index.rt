@@ -89,9 +89,9 @@ impl EntryIndex {
             → IfOk result (λ numbers. numbers.items ≡ numbers_from 1 (λ e. names policy e.subject.principal key.now) es) }
     {
         let own = numbers_of(alloc, self.rows_at(&self.keys, key.as_slice()))?;
-        let first = joined(alloc, own, self.admitted(HashAlg::Sha1, key, policy))?;
-        let second = joined(alloc, first, self.admitted(HashAlg::Sha256, key, policy))?;
-        joined(alloc, second, self.admitted(HashAlg::Sha512, key, policy))
+        let first = merge_numbers(alloc, own, self.admitted(HashAlg::Sha1, key, policy))?;
+        let second = merge_numbers(alloc, first, self.admitted(HashAlg::Sha256, key, policy))?;
+        merge_numbers(alloc, second, self.admitted(HashAlg::Sha512, key, policy))
     }
 
     /// The rows of the entries whose principal is the key's hash by the algorithm. Empty if the policy lets no such
@@ -101,7 +101,7 @@ impl EntryIndex {
             ≡ (if admits policy alg then numbers_with self.now.principals (digest_of alg key.now) (rows_by self.now (Some alg)) else []) }
     {
         if policy.admits(alg) {
-            self.hashed(alg, key)
+            self.rows_of_hash(alg, key)
         } else {
             &[]
         }
@@ -109,7 +109,7 @@ impl EntryIndex {
 
     /// The rows of the entries whose principal is the key's hash by the algorithm, under any policy. If the index has
     /// no hash by the algorithm, there are no rows, and the key is not digested.
-    fn hashed(&self, alg: HashAlg, key: &Key) -> &[Row]
+    fn rows_of_hash(&self, alg: HashAlg, key: &Key) -> &[Row]
         ensures { IsInOrder self.now.principals (rows_by self.now (Some alg))
             → map row_number result.now ≡ numbers_with self.now.principals (digest_of alg key.now) (rows_by self.now (Some alg)) }
     {
@@ -273,7 +273,7 @@ fn numbers_of(alloc: Global, rows: &[Row]) -> Result<Vec<usize>, AllocError>
 /// Merges `own`, ascending numbers of entries, with the numbers of the rows, which ascend too, into one ascending list. A number that is in both
 /// is kept twice, but `found` passes no such number: an entry has one principal. If one of the two is empty, nothing is compared. Err if memory
 /// ran out.
-fn joined(alloc: Global, own: Vec<usize>, rows: &[Row]) -> Result<Vec<usize>, AllocError>
+fn merge_numbers(alloc: Global, own: Vec<usize>, rows: &[Row]) -> Result<Vec<usize>, AllocError>
     ensures { IfOk result (λ numbers. numbers.items ≡ merge own.items (map row_number rows.now)) }
 {
     if rows.is_empty() {

@@ -6,8 +6,8 @@ use Rattle.spki_decision.proofs.CertificateTests.{signed_here, failing_here, sta
 use Rattle.spki_case.specs.Case.{certificates, keys_of}
 use Rattle.spki_decision.proofs.examination.examine_by.Goals as goal
 
-pub test-requires : goal.test-requires
-test-requires c = search (rules, signed_here)
+pub test_certificate-requires : goal.test_certificate-requires
+test_certificate-requires c = search (rules, signed_here)
 
 pub returns-in-Fails-clause-asked : goal.returns-in-Fails-clause-asked
 returns-in-Fails-clause-asked c = search (rules, rest_of, asked_whole, not_asked)

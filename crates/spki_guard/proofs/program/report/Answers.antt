@@ -1,4 +1,4 @@
 use Rattle.spki_guard.proofs.program.report.Goals as goal
 
 pub returns-in-WriteFault : goal.returns-in-WriteFault
-returns-in-WriteFault g c = rw c.in-WriteFault.is c.say-in-WriteFault.ensures
+returns-in-WriteFault g c = rw c.in-WriteFault.is c.write_message-in-WriteFault.ensures

@@ -19,4 +19,4 @@ returns c = λ es indexed.
     ≡ numbers_from 1 (λ e. names c.args.policy e.subject.principal key) es =
     rw (c.admitted.ensures (indexed.ordered (Some Sha1)), c.admitted-2.ensures (indexed.ordered (Some Sha256)), c.admitted-3.ensures (indexed.ordered (Some Sha512)))
     (found_all c.args.policy key es index indexed) in
-    IfOk-weaker c.joined-3.result _ _ (λ v is. is ∙ ap (λ l. merge l (map row_number c.admitted-3.result.now)) second ∙ merged) c.joined-3.ensures
+    IfOk-weaker c.merge_numbers-3.result _ _ (λ v is. is ∙ ap (λ l. merge l (map row_number c.admitted-3.result.now)) second ∙ merged) c.merge_numbers-3.ensures

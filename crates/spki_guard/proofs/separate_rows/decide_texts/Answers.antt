@@ -1,6 +1,6 @@
 use Rattle.spki_case.specs.View.{model}
 use Rattle.spki_guard.proofs.AnswerLaws.{apart_answered, apart_refused, err_lifted}
-use Rattle.spki_guard.proofs.separate_rows.checked.Goals as goal
+use Rattle.spki_guard.proofs.separate_rows.decide_texts.Goals as goal
 
 pub returns-in_err-text-clause-refused : goal.returns-in_err-text-clause-refused
 returns-in_err-text-clause-refused c =

@@ -1,6 +1,6 @@
 use Rattle.std.proofs.{Common.{rules}, lemmas.{List.{length-map}, Result.{IfOk-weaker}}}
 use Rattle.spki_service.proofs.IndexLaws.{merge-empty, empty-merge}
-use Rattle.spki_service.proofs.index.joined.Goals as goal
+use Rattle.spki_service.proofs.index.merge_numbers.Goals as goal
 
 -- nothing is added
 pub returns-then-is_empty : goal.returns-then-is_empty

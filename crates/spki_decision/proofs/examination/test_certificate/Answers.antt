@@ -1,6 +1,6 @@
 use Rattle.std.proofs.Common.{◌≡◌, ap, rules, Some, option_copied}
 use Rattle.spki_decision.specs.CertificateTests.{shown_of}
-use Rattle.spki_decision.proofs.examination.test.Goals as goal
+use Rattle.spki_decision.proofs.examination.test_certificate.Goals as goal
 
 pub returns-clause-tested : goal.returns-clause-tested
 returns-clause-tested c =

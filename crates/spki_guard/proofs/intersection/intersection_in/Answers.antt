@@ -2,7 +2,7 @@ use Rattle.std.proofs.Common.{◌*◌, ◌<◌, ◌≤◌, arith, rules}
 use Rattle.sexpr_core.specs.Value.{Value}
 use Rattle.spki_tag.{specs.{Reading.{ReadsAs}, Tag.{Tag, nodes, IsNormalTag}}, proofs.NormalForms.{IsNormalTag-of, meet-normal_tag}}
 use Rattle.spki_guard.proofs.AnswerLaws.{first_refused, second_refused}
-use Rattle.spki_guard.proofs.intersection.meet_in.Goals as goal
+use Rattle.spki_guard.proofs.intersection.intersection_in.Goals as goal
 
 normal_read : (v : Value) (t : Tag) → ReadsAs v t → IsNormalTag t
 normal_read v t r = IsNormalTag-of r.w t r.normal (omega (arith, r.few))
