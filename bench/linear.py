@@ -141,8 +141,8 @@ def entries_and_names(entries, certificates, members):
 
 def entries_and_two_words(entries, certificates, members):
     """A case of equal entries for a name of two words, `friends friend` of the first key. The chain of definitions resolves the first word, and
-    nothing defines the second."""
-    # (its list is empty, and is replaced by one with entries)
+    nothing defines the second. So no entry grants anything, whoever asks, and each is tried."""
+    # (the list that `through_names` makes is empty here, and is replaced by one with these entries)
     text = through_names(certificates, entries=0, asks=OTHER)
     listed = [entry(name(key("k00000"), "friends", "friend"))] * entries
     return text.replace(group(string("acl")), group(string("acl"), *listed), 1)

@@ -15,8 +15,8 @@ PLAIN = re.compile(rb"[ -~]{1,40}\Z")
 
 class Labels:
     """Labels of keys, hashes and names: `of_values` has them by canonical texts, `hashes` the keys, as values, by algorithm and digest, and `faults`
-    the lines that cannot be read, each as its number from 1 and why. `lines` is a text with a label and a key on each line, and `engine` reads the
-    keys."""
+    the lines that cannot be read, each as its number from 1 and why. `lines` is a text with a label and a key on each line, of which those after the
+    first MOST_LABELS are left out. `engine` reads the keys."""
 
     def __init__(self, engine, lines):
         self.of_values, self.hashes, self.faults = {}, {}, []

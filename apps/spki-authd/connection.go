@@ -287,9 +287,10 @@ func (s *connectionServer) recoverPanic() {
 	}
 }
 
-// answerOne reads and answers one request, and says whether another one may follow on the connection. A request that does not end in time is logged
-// and gets no answer. Octets that are no request, and a request whose headers end early, are answered by `refused`. Only the answer to a PUT, by which
-// certificates are left, needs the body: any other body is dropped before. After a request with a body no other one may follow.
+// answerOne reads and answers one request, and says whether another one may follow on the connection. A request whose headers do not end in time is
+// logged as refused, and gets no answer. What is no request of HTTP/1, and a request whose headers end early, is answered by `refused`. The body of a
+// PUT, by which a client leaves certificates, is read for the answer, and the rest of it dropped afterwards; any other body is dropped before the
+// answer. After a request with a body no other one may follow.
 func (s *connectionServer) answerOne(connection net.Conn, reader *requestReader) bool {
 	request, err := reader.next()
 	if err != nil && errors.Is(err, os.ErrDeadlineExceeded) {
@@ -301,11 +302,11 @@ func (s *connectionServer) answerOne(connection net.Conn, reader *requestReader)
 		decision = s.decider.logFault(answerRefused, errNoRequest)
 	} else {
 		isPut := s.decider.config.isPut(request)
-		hasOtherBody := !isPut && skipBody(request)
+		hasOtherBody := !isPut && dropBody(request)
 		isLast = isPut || hasOtherBody || request.Close || !request.ProtoAtLeast(1, 1)
 		decision = s.decider.answerTo(request)
 		if isPut {
-			dropBody(request)
+			dropRest(request)
 		}
 	}
 	isLast = isLast || s.isEnding.Load()
@@ -317,19 +318,19 @@ func (s *connectionServer) answerOne(connection net.Conn, reader *requestReader)
 	return err == nil && !isLast
 }
 
-// skipBody drops the body of a request as dropBody does, and says whether it has one. Its caller reads no other request behind a body: so no part of
+// dropBody drops the body of a request as dropRest does, and says whether it has one. Its caller reads no other request behind a body: so no part of
 // what a web server takes for a body can be read as a request.
-func skipBody(request *http.Request) (hasBody bool) {
+func dropBody(request *http.Request) (hasBody bool) {
 	if request.ContentLength == 0 {
 		return false
 	}
-	dropBody(request)
+	dropRest(request)
 	return true
 }
 
-// dropBody reads and drops up to mostBody octets of a body, unless the client waits to be asked for it (`Expect`). Where octets are left unread when the
-// connection is closed, the system may report that to the web server before it has read the answer.
-func dropBody(request *http.Request) {
+// dropRest reads and drops up to mostBody octets of what is unread of a body, unless the client waits to be asked for it (`Expect`). Where octets are
+// left unread when the connection is closed, the system may report that to the web server before it has read the answer.
+func dropRest(request *http.Request) {
 	if request.Header.Get("Expect") == "" {
 		// (what is longer, or ends early, is left)
 		_, _ = io.CopyN(io.Discard, request.Body, mostBody)

@@ -657,8 +657,8 @@ class Guards(unittest.TestCase):
             with self.assertRaises(TypeError):
                 spki.Guard(by_sha1, other)
 
-    # A limit out of range is an error, also one that a cut to 64 bits would make 16. A question beyond a limit of octets, certificates or strings is
-    # refused. Limits of nodes, work and the answer bound explanations alone. A limit of 0 is the library's own.
+    # A limit out of range is an error, also one that a cut to 64 bits would make 16, and so is one that is no int, or a bool. A question beyond a
+    # limit of octets, certificates or strings is refused. Limits of nodes, work and the answer bound explanations, and no decisions. 0 is the default.
     def test_limits(self):
         for wrong in ({"octets": 1_048_577}, {"nodes": 1_000_001}, {"work": -1}, {"octets": -1}, {"answer": 2 ** 28 + 1},
                       {"certificates": 2 ** 64 + 16}):
@@ -676,7 +676,7 @@ class Guards(unittest.TestCase):
             self.assertEqual(raised.exception.line, line)
         self.assertTrue(spki.Guard(LIST, limits=spki.Limits(octets=0, certificates=0, work=7)).decide(new_question(), accept_all))
         for limits in (spki.Limits(nodes=1), spki.Limits(work=1), spki.Limits(answer=5)):
-            # (by a tag of three nodes)
+            # (a tag of three nodes, since `(*)` is within the limit of one)
             guard = spki.Guard(LIST.replace(b"(*)", b"(ftp host)"), limits=limits)
             self.assertTrue(guard.decide(new_question(), accept_all))
             with self.assertRaises(spki.Refused) as raised:

@@ -1,6 +1,7 @@
 """The lines and exit statuses of the commands, and of decisions by rows apart (sections "The program", "The library for C programs").
 
-An answer is a pair: the exit status, and what the program writes. `X.count_use(row)` counts a row of a table of the document. A chain is an entry
+An answer is a pair: the exit status, and what the program writes. `rows` of a case, or apart from it, are its accepted signatures, `(by KEY HASH
+VALUE)` each. `X.count_use(..)` counts a row of a table of the document. A chain is an entry
 with all certificates of the sequence. Steps are the certificates that passed the tests of evidence, each with the number of its item."""
 from collections.abc import Callable
 from contextlib import AbstractContextManager

@@ -109,7 +109,8 @@ class Attackers:
         return signed_sequence(certificate, signer, None)
 
     def make_tls_certificates(self) -> None:
-        """Writes certificates for TLS into keys/: of Eve's key in Ann's name, Eve's and Ann's, of a P-521 key, and of Ben's key, which has ended."""
+        """Writes certificates for TLS into keys/: one of Eve's key in Ann's name; a file with both Eve's and Ann's; one of a P-521 key, which is made
+        beside it; and one of Ben's key that has ended, by a request, since `req -x509` takes no negative number of days."""
         site, make = self.site, ("openssl", "req", "-x509", "-new")
         site.sh(*make, "-key", "keys/eve", "-subj", "/CN=ann", "-days", "9", "-out", "keys/named-ann.crt")
         site.write("keys/both.crt", site.text("keys/eve.crt") + site.text("keys/ann.crt"))

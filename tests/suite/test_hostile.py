@@ -145,7 +145,8 @@ def three_certificates():
 
 
 def first_run():
-    """The text of the first case of examples/ in each form of S-expressions: canonical, advanced, in braces."""
+    """The first case of examples/ as a text in each form of S-expressions: canonical, advanced, in braces. The advanced one loses its last line feed:
+    without it each proper beginning is incomplete."""
     canonical = pathlib.Path(EXAMPLES, "first-run.csexp").read_bytes()
     return canonical, text_of("examples/texts/case.sexp").encode().rstrip(), braced(canonical)
 

@@ -458,7 +458,7 @@ class Requests(OfPage):
             self.assertEqual(headers["Server"], "playground")
             self.assertNotIn("Access-Control-Allow-Origin", headers)
 
-    def test_listens_on_loopback_alone(self) -> None:
+    def test_address_is_on_loopback(self) -> None:
         self.assertEqual(self.page.address.hostname, "127.0.0.1")
 
     def test_no_script_makes_markup_of_text(self) -> None:

@@ -418,7 +418,7 @@ class StoreDaemon:
         return self.daemon.ask(who, "GET", "/web/a", sequence).status
 
     def wait_for_status(self, wanted: int, who: Person, sequence: bytes = b"") -> None:
-        """Waits until a person's request is answered with this status."""
+        """Waits until a person's request is answered with this status. Fails as `waits_for` does if that takes too long."""
         waits_for(f"{wanted} for {os.path.basename(who.path)} from {self.room}", lambda: self.status(who, sequence) == wanted)
 
     def kill(self) -> None:
@@ -429,7 +429,7 @@ class StoreDaemon:
 
 
 def wait_for_all(daemons: Iterable[StoreDaemon], wanted: int, *people: Person) -> None:
-    """Waits until each daemon answers a request of each of these people with this status."""
+    """Waits until each daemon answers a request of each of these people with this status. The test fails if that takes too long."""
     for daemon, who in itertools.product(daemons, people):
         daemon.wait_for_status(wanted, who)
 

@@ -283,9 +283,9 @@ def moment_of(text: str, time_of_day: str = "_00:00:00") -> bytes:
 
 
 def target_of(path: str, new: bytes, force: bool, edits: bool) -> tuple[str, os.stat_result | None]:
-    """The file that a path leads to, and its state before it is written, or None if there is none. Raises Refused if it must not be written:
-    with `force` it may be there already, unless it may be a key or the file of ended certificates, and with `edits` it may be one that was read.
-    `new` are the octets to be written."""
+    """The file that a path leads to, and its state before it is written, or None if there is none. `new` are the octets to be written. Raises Refused
+    if the file must not be written. One that the command has read needs `edits`, and only one name: its keys are the command's business. Another one
+    that is there needs `force`, and must be neither a key, or what may be one, nor the file of ended certificates."""
     place = os.path.realpath(path)
     try:
         before = os.stat(place)
@@ -294,8 +294,11 @@ def target_of(path: str, new: bytes, force: bool, edits: bool) -> tuple[str, os.
             raise Refused(f"{path}: this is no regular file, and only such a file is written; nothing was written")
         if is_read and not edits:
             raise Refused(f"{path}: this command reads this file, so it is not written over; nothing was written")
-        if not before.st_mode & 0o222 or not os.access(place, os.W_OK):
+        if not before.st_mode & 0o222:
             raise Refused(f"{path}: its mode {stat.S_IMODE(before.st_mode):o} says that it is not to be written; nothing was written")
+        if not os.access(place, os.W_OK):
+            raise Refused(f"{path}: this account may not write it, or its file system is only for reading; nothing was written")
+        # (a new file takes the place of the old one, so that other names would keep the old octets)
         if is_read and before.st_nlink > 1:
             raise Refused(f"{path}: it has {before.st_nlink} names, of which only one would be changed; nothing was written")
         with open(place, "rb") as file:

@@ -167,8 +167,8 @@ class Asked(_Closable, NoDecision):
 
     def mark(self, place: int) -> None:
         """Says that the signature at this place, from 0, is valid. The mark is for its place alone, also if the same signature is there twice.
-        Raises `IndexError` if there is no such place, and `TypeError` for a place that is no `int`, or is `True` or `False`. Then nothing is
-        marked."""
+        Raises `IndexError` if there is no such place, `TypeError` for a place that is no `int`, or is `True` or `False`, and `ValueError` after
+        `close`. Then nothing is marked."""
         handle, index = self._open_handle(), int_of(place)
         if index not in range(self._count):
             raise IndexError(f"there are {self._count} signatures, and none at the place {index}")
