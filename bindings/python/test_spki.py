@@ -658,7 +658,7 @@ class Guards(unittest.TestCase):
                 spki.Guard(by_sha1, other)
 
     # A limit out of range is an error, also one that a cut to 64 bits would make 16, and so is one that is no int, or a bool. A question beyond a
-    # limit of octets, certificates or strings is refused. Limits of nodes, work and the answer bound explanations, and no decisions. 0 is the default.
+    # limit of octets, certificates or strings is refused. Those of nodes, work and the answer bound explanations, and no decisions. 0 is the default.
     def test_limits(self):
         for wrong in ({"octets": 1_048_577}, {"nodes": 1_000_001}, {"work": -1}, {"octets": -1}, {"answer": 2 ** 28 + 1},
                       {"certificates": 2 ** 64 + 16}):

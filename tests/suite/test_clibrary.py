@@ -454,8 +454,8 @@ class Swapped(OfC):
 
 @needs.needs(*needs.LIBRARY)
 class Structures(unittest.TestCase):
-    """`later.c` includes spki.c, and gives it structures with more and with fewer fields than the header has with which both are compiled: the present
-    one, or a later one, whose structures have one more field."""
+    """`later.c` includes spki.c, and gives it structures with more and with fewer fields than those of the header with which both are compiled: the
+    present one, or a later one, whose structures have one more field."""
 
     # The changes that make the later header: a number more in two initializers, and a field more in two structures.
     LATER = (("0, 0, 0, 0, 0, 0}", "0, 0, 0, 0, 0, 0, 0}"), (", SPKI_MOST_ANSWER}", ", SPKI_MOST_ANSWER, 0}"),
