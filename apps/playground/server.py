@@ -65,6 +65,7 @@ class Handler(http.server.BaseHTTPRequestHandler):
         except (ConnectionError, TimeoutError):
             raise
         except Exception:
+            # (the client may be gone)
             with contextlib.suppress(OSError):
                 self.refuse(http.HTTPStatus.INTERNAL_SERVER_ERROR)
             raise
@@ -86,6 +87,7 @@ class Handler(http.server.BaseHTTPRequestHandler):
         name = self.name_asked(default="")
         if name is None:
             return
+        # (older browsers send no Sec-Fetch-Site)
         if self.headers.get("Origin") not in self.server.origins or self.headers.get("Sec-Fetch-Site", "same-origin") != "same-origin":
             self.refuse(http.HTTPStatus.FORBIDDEN)
             return

@@ -2,7 +2,7 @@
 import { htmlElement, svgElement } from "./dom.js";
 
 // In pixels: the room above and below an arrow's text, the height of a line, the margin in a box, and where the shaft of an arrow and the text beside
-// it are, from the left.
+// it are, from the left. Numbers that are added to these are pixels too, chosen by eye.
 const GAP = 10, LINE = 17, PAD = 10, SHAFT = 22, BESIDE = 42;
 // The most lines of a text beside an arrow, of one that says why the chain stops, and of the label of a box; and the letters of any text. What is
 // more ends in dots.
