@@ -1,4 +1,5 @@
-"""What keys are called on the page: by a list of labels, by a comment of an entry or a certificate, or by a short form of the key."""
+"""What keys are called on the page: by a list of labels, by a comment of an entry or a certificate, or by a short form of the key. A value is that
+of an S-expression: a string is `bytes`, and a list a `list` whose first member is its head."""
 import hashlib
 import re
 

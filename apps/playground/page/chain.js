@@ -1,4 +1,4 @@
-// The picture of a chain: boxes from above, and arrows with what they give beside them.
+// The picture of a chain: boxes from above, and arrows with what they give beside them. A step of a chain is one of these, as chain.py makes it.
 import { htmlElement, svgElement } from "./dom.js";
 
 // In pixels: the room above and below an arrow's text, the height of a line, the margin in a box, and where the shaft of an arrow and the text beside
