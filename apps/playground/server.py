@@ -204,6 +204,6 @@ class Server(http.server.ThreadingHTTPServer):
             self.room.release()
 
     def handle_error(self, request, client_address):
-        """Prints the error that ended a request, with its place. Prints nothing of a connection that breaks or takes too long."""
+        """Prints the error that ended a request to standard error, with its traceback. Not of a connection that breaks or takes too long."""
         if not isinstance(sys.exc_info()[1], (ConnectionError, TimeoutError)):
             super().handle_error(request, client_address)

@@ -365,8 +365,8 @@ static bool may_have_body(const struct http_request *request)
     for (size_t i = 0; i < request->field_count; i++)
         if (equals_ignoring_case(request->fields[i].name, literal("content-length")) && !is_text(trimmed(request->fields[i].value), "0"))
             return true;
-    bool is_read = is_text(request->method, "GET") || is_text(request->method, "HEAD");
-    return request->has_body || !is_read || count_lines(request, literal("transfer-encoding"), NULL) > 0;
+    bool is_get_or_head = is_text(request->method, "GET") || is_text(request->method, "HEAD");
+    return request->has_body || !is_get_or_head || count_lines(request, literal("transfer-encoding"), NULL) > 0;
 }
 
 /* ---- the signed text */
