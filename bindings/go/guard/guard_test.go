@@ -138,7 +138,7 @@ func TestZeroValuesGrantNothing(t *testing.T) {
 // TestVerifierStopsAtTheFirstWrongSignature shows three certificates, of which the second has a wrong signature. The third is not verified. The
 // second is item 3 of the sequence, since each signature is an item too.
 func TestVerifierStopsAtTheFirstWrongSignature(t *testing.T) {
-	question, calls := questionWith(3), 0
+	question, calls := questionWith(0), 0
 	question.Sequence = []byte("(sequence " + forB + strings.Replace(forB, "sig)", "wrong)", 1) + forB + ")")
 	explanation, err := openGuard(t, list).Explain(question, func(signature guard.Signature) bool {
 		calls++
@@ -559,7 +559,7 @@ func TestMisuseIsLogged(t *testing.T) {
 	}
 }
 
-// TestLimitsOfZeroAreTheLibrarys sets one limit. The others are the usual ones, such as 16 certificates.
+// TestLimitsOfZeroAreTheLibrarys sets one limit, and leaves the others 0. These are then the usual ones, such as 16 certificates.
 func TestLimitsOfZeroAreTheLibrarys(t *testing.T) {
 	opened, err := guard.Open([]byte(list), guard.Strict, guard.Limits{Answer: 1000})
 	if err != nil {
