@@ -39,12 +39,12 @@ class Home:
 
     def run(self, words, text=b""):
         """The octets that a program writes to its standard output, run in the home with `text` as its input. `words` are its name and arguments. Its
-        status is not looked at: `main` counts an empty output as a failure."""
+        status is not looked at: `main` counts an empty output as a failure. Raises `TimeoutExpired` if it does not end within SECONDS."""
         return subprocess.run(words, input=text, stdout=subprocess.PIPE, stderr=subprocess.DEVNULL, cwd=self.folder, env=self.settings,
                               timeout=SECONDS).stdout
 
     def file(self, name):
-        """The octets of a file of the home."""
+        """The octets of a file of the home. Raises `FileNotFoundError` if it is not there, as where a tool has failed."""
         with open(os.path.join(self.folder, name), "rb") as file:
             return file.read()
 
@@ -58,7 +58,7 @@ class Home:
 
     def authorize(self, name):
         """Has `lsh-authorize` put the public key of `name`, as `key_files` has it, on its list, a folder. Returns the name of the file that it makes
-        there, and its octets."""
+        there, and its octets. Raises `ValueError` or `FileNotFoundError` if it makes none."""
         folder = os.path.join(".lsh", "authorized_keys_sha1")
         path = os.path.join(self.folder, folder)
         before = set(os.listdir(path)) if os.path.exists(path) else set()

@@ -79,7 +79,7 @@ def main():
     if len(sys.argv) < 2 or sys.argv[1].startswith("-"):
         sys.exit(__doc__)
     try:
-        drawing = drawn(given_program(2), sys.argv[1])
+        drawing = drawn(given_program(place=2), sys.argv[1])
     except (OSError, NotDrawn, subprocess.TimeoutExpired) as why:
         print(why, file=sys.stderr)
         return 2

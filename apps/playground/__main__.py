@@ -74,6 +74,7 @@ def main():
     workers = Workers(options.engine, options.seconds)
     try:
         server = Server(options.port, workers, JOBS, start_json(engine.name))
+    # (an OverflowError is that of a number that no port has)
     except (OSError, OverflowError) as why:
         print(f"port {options.port}: {why}", file=sys.stderr)
         workers.end()

@@ -96,10 +96,10 @@ def reasons_part(story, reasons, line):
 
 
 def add_rights_left(sent_question, story, reasons, reduced):
-    """Adds rights to `story.rights_left`. By an entry's number and None: the right that remains of it, from `reduced`, the lines of `reduce` in the
-    order of the entries, for the entries of the first MOST_LEFT `reasons`, which go furthest. By the number of the first reason's entry and that of
-    the item that stops its chain: the right before that item, which the library is asked for. Raises `Refused` if the library refuses that. The
-    rights that were added before stay."""
+    """Adds rights to `story.rights_left`, a dictionary by the number of an entry and that of an item or None. With None: the right that remains of
+    the entry, for the entries of the first MOST_LEFT `reasons`, whose chains go furthest. `reduced` has the lines of `reduce`, one for each entry.
+    With an item: the right before the item that stops the chain of the first reason, if one does. The engine is asked for it. Raises `Refused` if it
+    refuses that: the rights that were added before stay."""
     value = sent_question.engine.value
     for reason in reasons[:MOST_LEFT]:
         # (a line without `(five ..)` says what stops the chain: then no right remains)
@@ -142,7 +142,7 @@ def tags(engine, sent):
         return
     octets = {name: text(sent, name).encode(errors="replace") for name in ("first", "second")}
     answers = {name: containment(engine, octets[name], words) for name in octets}
-    yield dict(answers)
+    yield answers
     if len(words) == 1 and is_one_string_of_words(words[0]) and any(answer.get("contains") is False for answer in answers.values()):
         yield {"hint": ONE_STRING}
     if all("line" not in answer for answer in answers.values()):

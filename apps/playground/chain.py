@@ -1,5 +1,5 @@
 """The chain of an answer as boxes and arrows from the access list to the request, which the page draws as SVG. Entries, certificates and rights are
-values of S-expressions: a string is `bytes`, and a list a `list` whose first member is its head."""
+values of S-expressions: a string is `bytes`, and a list a `list` whose first member is its head. A story is a question that was answered."""
 from labels import field
 from spki_cert_tool.sexp import on_one_line
 from story import issuer_of, subject_after, moment_of, subject_of, tag_of, window
@@ -33,7 +33,7 @@ def lines_beside(name, value):
 
 class Chain:
     """The boxes and arrows of a story, from above: `steps`, to which the methods add. `subject` is that of the last box of a subject, or None before
-    the first. A story is a question that was answered."""
+    the first."""
 
     def __init__(self, story):
         self.story, self.steps, self.subject = story, [], None

@@ -167,6 +167,7 @@ class ByProgram(Engine):
     def __init__(self, program):
         super().__init__()
         self.program = program
+        # (the comma at its end is for `__main__.py`, which prints ` decides` behind the name)
         self.name = "spki, compiled without proofs," if program == UNPROVED_PROGRAM else "spki"
         self.signed = functools.lru_cache(CACHE_SIZE)(self.list_signed)
 

@@ -69,8 +69,8 @@ class SentQuestion:
         return self.engine.lines(self.question._replace(sequence=canonical([b"sequence", *items])), "reduce")
 
     def signatures(self, labels):
-        """The signatures on which the decision depends, as the page lists them, each a dictionary: who signed, the certificate, whether the page made
-        the signature up, and whether it counts. `labels`, a `Labels`, learns the keys of the certificates."""
+        """The signatures on which the decision depends, as the page lists them, each a dictionary: who signed, the certificate, cut at MOST_LETTERS,
+        whether the page made the signature up, and whether it counts. `labels`, a `Labels`, learns the keys of the certificates."""
         listed = []
         for place, signed in enumerate(self.engine.signed(self.question)):
             # (the message that is signed is the certificate)
@@ -130,7 +130,8 @@ class SentQuestion:
 
 
 class SentCase:
-    """A whole case in one box, with those methods of `SentQuestion` by which `asking.py` decides, explains and refuses it."""
+    """A whole case in one box, with those methods of `SentQuestion` by which `asking.py` decides, explains and refuses it. `engine` is the `Engine`
+    that decides, and `sent` the object that the page sent: its field `text` is the case. Methods that ask the engine raise `Refused`."""
 
     def __init__(self, engine, sent):
         self.engine, self.octets = engine, text(sent, "text").encode(errors="replace")

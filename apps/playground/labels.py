@@ -1,4 +1,5 @@
-"""What keys are called on the page: by a list of labels, by a comment of an entry or a certificate, or by a short form of the key."""
+"""What keys are called on the page: by a list of labels, by a comment of an entry or a certificate, or by a short form of the key. A value is that
+of an S-expression: a string is `bytes`, and a list a `list` whose first member is its head."""
 import hashlib
 import re
 
@@ -25,7 +26,7 @@ class Labels:
                 self.add_line(engine, number, line)
 
     def add_line(self, engine, number, line):
-        """Reads a line `LABEL KEY`, or adds to `faults` its number, which counts from 1, and why it cannot be read."""
+        """Reads a line `LABEL KEY`, or adds to `faults` its number, which counts from 1, and why it cannot be read. Cuts a label at MOST_LETTERS."""
         match = LINE.fullmatch(line)
         try:
             if not match or not match[1]:
@@ -50,8 +51,8 @@ class Labels:
                 self.learn_comment(part)
 
     def learn_comment(self, part):
-        """Adds the comment of `part`, an entry or a certificate, as a label of its subject, unless the subject has a label. In a tag or a key a list
-        may begin with `entry` or `cert` and be none, so its form is tested too."""
+        """Adds the comment of `part`, an entry or a certificate, cut at MOST_LETTERS, as a label of its subject, unless the subject has a label. In a
+        tag or a key a list may begin with `entry` or `cert` and be none, so its form is tested too."""
         comment = field(part, b"comment")
         subject = part[1:2] if part[0] == b"entry" else (field(part, b"subject") or [])[1:2]
         if comment and len(comment) == 2 and isinstance(comment[1], bytes) and subject and isinstance(subject[0], list):

@@ -1,5 +1,6 @@
 """The answer in words: a sentence for each line of `explain`, and what can be done about it. A line, as `entry 1 item 3 NoDelegation`, says which
-entry of the access list grants the request, or which item of the sequence stops its chain of certificates, and for which cause."""
+entry of the access list grants the request, or which item of the sequence stops its chain of certificates, and for which cause. A story is a question
+that was answered, with the labels of its keys."""
 from labels import field
 from story import issuer_of, moment_of, tag_of, window
 

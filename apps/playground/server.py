@@ -65,6 +65,7 @@ class Handler(http.server.BaseHTTPRequestHandler):
         except (ConnectionError, TimeoutError):
             raise
         except Exception:
+            # (the client may be gone)
             with contextlib.suppress(OSError):
                 self.refuse(http.HTTPStatus.INTERNAL_SERVER_ERROR)
             raise
@@ -86,6 +87,7 @@ class Handler(http.server.BaseHTTPRequestHandler):
         name = self.name_asked(default="")
         if name is None:
             return
+        # (older browsers send no Sec-Fetch-Site)
         if self.headers.get("Origin") not in self.server.origins or self.headers.get("Sec-Fetch-Site", "same-origin") != "same-origin":
             self.refuse(http.HTTPStatus.FORBIDDEN)
             return
@@ -202,6 +204,6 @@ class Server(http.server.ThreadingHTTPServer):
             self.room.release()
 
     def handle_error(self, request, client_address):
-        """Prints the error that ended a request, with its place. Prints nothing of a connection that breaks or takes too long."""
+        """Prints the error that ended a request to standard error, with its traceback. Not of a connection that breaks or takes too long."""
         if not isinstance(sys.exc_info()[1], (ConnectionError, TimeoutError)):
             super().handle_error(request, client_address)

@@ -9,7 +9,8 @@ for who in wim ann ben web-robot ada eva ian app-robot dan gus joy data-robot; d
     ssh-keygen -q -t ed25519 -N '' -C $who -f $who
 done
 
-# team LEAD TEAM DEVELOPER DEVELOPER: adds the lead's entry to the list, and signs what the lead signs
+# team LEAD TEAM DEVELOPER DEVELOPER: adds the lead's entry to the list, and signs by the lead's key: the right of the team's developers, who is one,
+# and the right of the robot
 team() {
     echo "(entry $(spki-cert key "$1.pub") (propagate) (tag (cache (* set read write) (* prefix /$2/))))" >> entries
     spki-cert sign --by "$1" --named developers --tag "(cache (* set read write) (* prefix /$2/))" --days 90 \

@@ -54,7 +54,7 @@ int main(int argc, char **argv)
 {
     static char list[1 << 20], key[MOST], sequence[MOST], line[MOST], request[2 * MOST], last_request[2 * MOST];
     struct spki_text text = argc == 5 ? octets_of(argv[1], list, sizeof list) : (struct spki_text){NULL, 0};
-    /* (the decision about `last_request`: while it holds, the same request is not decided again) */
+    /* (the decision about `last_request`, at first a no: while it holds, the same request is not decided again) */
     struct spki_decision kept = {SPKI_NO, INT64_MIN};
     spki_guard *guard;
     if (spki_guard_open(text.octets, text.length, SPKI_STRICT, NULL, &guard, line, sizeof line, NULL) != SPKI_DONE)

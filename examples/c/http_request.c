@@ -239,7 +239,8 @@ static const char *read_components(struct cursor *in, struct input *input)
     return NULL;
 }
 
-/* Reads the parameters up to the end of the field. Returns null, or the name of the refusal, also if a component or parameter is missing. */
+/* Reads the parameters up to the end of the field. Returns null, or the name of the refusal, also if a component or parameter is missing. `place` is
+ * that of a parameter in parameter_names, and `seen` has a bit for each place that was read. */
 static const char *read_parameters(struct cursor *in, struct input *input)
 {
     unsigned seen = 0;
@@ -364,8 +365,8 @@ static bool may_have_body(const struct http_request *request)
     for (size_t i = 0; i < request->field_count; i++)
         if (equals_ignoring_case(request->fields[i].name, literal("content-length")) && !is_text(trimmed(request->fields[i].value), "0"))
             return true;
-    bool is_read = is_text(request->method, "GET") || is_text(request->method, "HEAD");
-    return request->has_body || !is_read || count_lines(request, literal("transfer-encoding"), NULL) > 0;
+    bool is_get_or_head = is_text(request->method, "GET") || is_text(request->method, "HEAD");
+    return request->has_body || !is_get_or_head || count_lines(request, literal("transfer-encoding"), NULL) > 0;
 }
 
 /* ---- the signed text */
@@ -510,7 +511,7 @@ static const char *read_digest(struct spki_text value, struct http_proof *proof)
 
 /* Checks that the signature covers the fields on which the answer depends, if they are there, and the digest of a body, which it reads into the
  * proof. Returns null, or the name of the refusal. */
-static const char *check_fields(const struct http_request *request, const struct input *input, struct http_proof *proof)
+static const char *check_coverage(const struct http_request *request, const struct input *input, struct http_proof *proof)
 {
     const char *const names[] = {authorization, sequence, body_digest};
     struct spki_text value;
@@ -578,7 +579,7 @@ static const char *check_message(const struct http_service *service, const struc
     const struct spki_text *authority = authority_of(service, request);
     const char *why = authority ? write_base(&counter, request, *authority, input) : "other-authority";
     if (!why)
-        why = check_fields(request, input, proof);
+        why = check_coverage(request, input, proof);
     if (!why)
         why = check_key(request, input, proof, &signature_length);
     if (why)
@@ -595,7 +596,7 @@ static const char *check_message(const struct http_service *service, const struc
 }
 
 /* Reads `Signature-Input`, and the octets of `Signature`. Returns null, or the name of the refusal. */
-static const char *read_fields(const struct http_request *request, struct input *input, unsigned char octets[MOST_INPUT], size_t *length)
+static const char *read_signature_fields(const struct http_request *request, struct input *input, unsigned char octets[MOST_INPUT], size_t *length)
 {
     struct spki_text input_text, signature;
     size_t inputs = count_lines(request, literal("signature-input"), &input_text);
@@ -649,7 +650,7 @@ const char *http_request_refusal(const struct http_service *service, const struc
     struct http_proof checked = {.key_length = 0};
     unsigned char octets[MOST_INPUT];
     size_t length = 0;
-    const char *why = read_fields(request, &input, octets, &length);
+    const char *why = read_signature_fields(request, &input, octets, &length);
     if (!why)
         why = check_parameters(service, &input, now);
     if (why)

@@ -31,7 +31,7 @@ SPKI_RESULT static inline struct spki_decision verify_decides(const spki_guard *
     struct spki_decision decision = {SPKI_NO, INT64_MIN};
     struct spki_signed signature;
     spki_asked *asked;
-    char line[64];
+    char line[64]; /* (of the decision; it is not read) */
     if (spki_guard_ask(guard, question, &asked, NULL, 0, NULL) != SPKI_DONE)
         return decision;
     const size_t count = spki_asked_possible(asked) ? spki_asked_count(asked) : 0;

@@ -14,7 +14,7 @@ by() {
 spki-cert entry --to keys/ann.pub --propagate --tag '(files read /rsync/)' --comment 'ann, rsync' --acl etc/acl.sexp > /dev/null
 kill -HUP "$(cat run/authd.pid)"
 spki-cert sign --by keys/ann --to keys/ben.pub --tag '(files read /rsync/)' --days 30 -o rsync-to-ben > /dev/null
-# (the daemon takes a moment to read its list again)
+# (the daemon takes a moment to read its list again. If it has ended, `kill` fails, and with it this script)
 until by ann; do
     kill -0 "$(cat run/authd.pid)"
     sleep 0.1

@@ -16,7 +16,7 @@ shows() {
 }
 
 # reload: has spki-authd read its list and its ended certificates again, waits for the line that says so, and prints the event that it names. Fails if
-# the daemon does not run. On a real server it is `systemctl reload spki-authd`, and the line is in its journal.
+# the daemon does not run. It waits without a limit. On a real server it is `systemctl reload spki-authd`, and the line is in its journal.
 reload() {
     lines=$(wc -l < log/authd-events.log)
     kill -HUP "$(cat run/authd.pid)" || return 1

@@ -145,13 +145,14 @@ class Service:
             raise ValueError(f"{method} is neither of {', '.join(METHODS)}")
         if len(proof.sequence) > MOST_SHOWN:
             raise ValueError(f"the sequence has more than {MOST_SHOWN} octets")
-        # (`case_of` takes apart what can be read as a sequence, and nothing else)
+        # (`case_of` takes apart what can be read as a sequence, and nothing else. `fault` is None if it can be)
         (fault, _, places), node = read_text(canonical(proof.sequence), "refused sequence")
         if fault is not None:
             raise ValueError(refusal(fault, places))
         if sum(headed(item, b"cert") for item in members(node.value)) > MOST_CERTIFICATES:
             raise ValueError(f"the sequence has more than {MOST_CERTIFICATES} certificates")
         request = [b"packages", METHODS[method].encode(), urllib.parse.unquote_to_bytes(target)]
+        # (labels are for answers in words, and a case has none)
         case = case_of(Asked(self.access_list, read(proof.key), request, moment.encode(), labels=None), node.value)
         return case, *spki("check", sexp.canonical(case))
 

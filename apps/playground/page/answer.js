@@ -1,4 +1,5 @@
-// The answer to a question or a whole case: verdict, places, reasons, rights, signatures and picture.
+// The answer to a question or a whole case, which is a question as one text: verdict, faults, reasons, rights, signatures and picture. A fault is a
+// refusal at the box that it is about, with its places, which say where the text is wrong and why.
 import { picture, stepsInWords } from "./chain.js";
 import { byId, htmlElement, setText } from "./dom.js";
 import { markAsNew } from "./state.js";

@@ -1,4 +1,4 @@
-// A box for a text, in which places can be underlined: a mirror of the text lies behind it.
+// A box for a text, in which places can be underlined: a mirror of the text lies behind it. A place says where a text is refused, and why.
 import { htmlElement } from "./dom.js";
 
 export class Box {

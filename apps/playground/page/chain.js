@@ -1,8 +1,8 @@
-// The picture of a chain: boxes from above, and arrows with what they give beside them.
+// The picture of a chain: boxes from above, and arrows with what they give beside them. A step of a chain is one of these, as chain.py makes it.
 import { htmlElement, svgElement } from "./dom.js";
 
 // In pixels: the room above and below an arrow's text, the height of a line, the margin in a box, and where the shaft of an arrow and the text beside
-// it are, from the left.
+// it are, from the left. Numbers that are added to these are pixels too, chosen by eye.
 const GAP = 10, LINE = 17, PAD = 10, SHAFT = 22, BESIDE = 42;
 // The most lines of a text beside an arrow, of one that says why the chain stops, and of the label of a box; and the letters of any text. What is
 // more ends in dots.

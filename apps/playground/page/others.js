@@ -1,4 +1,4 @@
-// The answers about tags and forms.
+// The answers about tags and forms. A refusal is shown at the box that it is about (`showFault`), and null there shows none.
 import { showNotice } from "./answer.js";
 import { byId, htmlElement, setText } from "./dom.js";
 import { markAsNew } from "./state.js";

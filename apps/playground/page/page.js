@@ -1,4 +1,5 @@
-// The page: boxes are filled, and changes are asked about.
+// The page: boxes are filled, and changes are asked about. A panel has the boxes of one kind of question: a question in parts, a whole case, tags or
+// forms. One panel is shown.
 import { Answer } from "./answer.js";
 import { asker, limitOctets } from "./ask.js";
 import { Box } from "./box.js";

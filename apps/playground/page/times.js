@@ -1,4 +1,5 @@
-// The scale of time: when the answer is yes, and a slider for the moment.
+// The scale of time: when the answer is yes, and a slider for the moment. In a span of time the answer stays the same. It begins and ends at limits,
+// a not-before or a not-after, or has no end there.
 import { byId, htmlElement, setText } from "./dom.js";
 import { markAsNew } from "./state.js";
 

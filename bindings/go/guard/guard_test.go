@@ -138,7 +138,7 @@ func TestZeroValuesGrantNothing(t *testing.T) {
 // TestVerifierStopsAtTheFirstWrongSignature shows three certificates, of which the second has a wrong signature. The third is not verified. The
 // second is item 3 of the sequence, since each signature is an item too.
 func TestVerifierStopsAtTheFirstWrongSignature(t *testing.T) {
-	question, calls := questionWith(3), 0
+	question, calls := questionWith(0), 0
 	question.Sequence = []byte("(sequence " + forB + strings.Replace(forB, "sig)", "wrong)", 1) + forB + ")")
 	explanation, err := openGuard(t, list).Explain(question, func(signature guard.Signature) bool {
 		calls++
@@ -150,8 +150,8 @@ func TestVerifierStopsAtTheFirstWrongSignature(t *testing.T) {
 	}
 }
 
-// TestMarkOfNoPlace marks places that the question does not have, which is ErrMisused and marks nothing, and then its only place, 0, twice. Some of
-// the former would be 0 if they were cut to their lowest octet.
+// TestMarkOfNoPlace marks places that the question does not have, which is ErrMisused and marks nothing, and then its only place, 0, twice, which
+// is no error. Some of the former would be 0 if they were cut to their lowest octet.
 func TestMarkOfNoPlace(t *testing.T) {
 	asked := askAndMark(t, openGuard(t, list), questionWith(1))
 	if listed := asked.Signatures(); len(listed) != 1 || string(listed[0].Message) != signatureForB[1] || !asked.Possible() {
@@ -192,7 +192,7 @@ func TestDecideVerified(t *testing.T) {
 	opened, question := openGuard(t, list), questionWith(1)
 	withSequence := question
 	withSequence.Sequence = []byte("(sequence " + forA + forB + ")")
-	question.Sequence = nil
+	question.Sequence = nil // (the Verified has it)
 	for _, row := range []struct {
 		places []int
 		most   int
@@ -227,8 +227,9 @@ func TestDecideVerified(t *testing.T) {
 	}
 }
 
-// TestVerifiedIsOfItsSequence shows that the marks of one sequence count for no other one, for no other policy, and not after Close. The zero
-// Verified has no certificates, so it grants b nothing. Octets that are changed after Ask do not matter.
+// TestVerifiedIsOfItsSequence decides by a Verified a question that has a Sequence too, and asks a guard with another policy. Both are ErrMisused, so
+// the marks count for nothing else. The zero Verified has no certificates, so it grants b nothing. Octets that are changed after Ask do not matter.
+// After Close the error is ErrClosed.
 func TestVerifiedIsOfItsSequence(t *testing.T) {
 	opened, question := openGuard(t, list), questionWith(1)
 	withSequence, otherSequence := question, append([]byte(nil), question.Sequence...)
@@ -492,7 +493,7 @@ func TestUsualLimits(t *testing.T) {
 			t.Errorf("%s: %v", name, err)
 		}
 	}
-	words.Words[0], words.Words = "x", words.Words[:64]
+	words.Words = words.Words[:64]
 	for name, question := range map[string]guard.Question{"certificates": questionWith(16), "words": words} {
 		if _, err := opened.Decide(question, acceptAll); err != nil {
 			t.Errorf("%s: %v", name, err)
@@ -558,7 +559,7 @@ func TestMisuseIsLogged(t *testing.T) {
 	}
 }
 
-// TestLimitsOfZeroAreTheLibrarys sets one limit. The others are the usual ones, such as 16 certificates.
+// TestLimitsOfZeroAreTheLibrarys sets one limit, and leaves the others 0. These are then the usual ones, such as 16 certificates.
 func TestLimitsOfZeroAreTheLibrarys(t *testing.T) {
 	opened, err := guard.Open([]byte(list), guard.Strict, guard.Limits{Answer: 1000})
 	if err != nil {
@@ -745,7 +746,7 @@ func TestSignaturesAreCopiedOneByOne(t *testing.T) {
 	}
 }
 
-// TestEachEndsWithItsQuestion closes a question in the call for its first signature. Each stops there with ErrClosed, also if it is the last one.
+// TestEachEndsWithItsQuestion closes a question in the call for its first signature. Each stops there with ErrClosed, also if that one is the last.
 func TestEachEndsWithItsQuestion(t *testing.T) {
 	for _, times := range []int{1, 3} {
 		asked, err := openGuard(t, list).Ask(questionWith(times))

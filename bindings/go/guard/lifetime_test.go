@@ -168,7 +168,7 @@ func TestCloseBesideQuestions(t *testing.T) {
 				}
 			}()
 		}
-		runtime.Gosched()
+		runtime.Gosched() // (so that some ask before Close)
 		opened.Close()
 		all.Wait()
 	}

@@ -1,3 +1,5 @@
+// Which versions of the library this module can call.
+
 package guard
 
 import "strings"

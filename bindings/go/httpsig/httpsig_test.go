@@ -365,7 +365,8 @@ func putForward(moment time.Time, seconds uint64) time.Time {
 }
 
 // TestStartByClockThatWasBehind has a service start while its clock is ten minutes behind. The clock is put right after ten seconds. What was created
-// before the start by the right clock is refused, since a service before this one may have answered it.
+// before the start by the right clock is refused, since a service before this one may have answered it. A row has the time of the service, by its
+// clock, and how long before that a request is signed.
 func TestStartByClockThatWasBehind(t *testing.T) {
 	signer, verifier := signers(t)[Ed25519], NewVerifier("example.com")
 	behind := verifier.Start
@@ -593,8 +594,8 @@ func TestNonces(t *testing.T) {
 	}
 }
 
-// FuzzFields shows that there is no panic whatever is in the fields, and that Check returns a proof only after Verify has accepted the signature.
-// This Verify accepts each text that has the form of a signed request, whatever its signature.
+// FuzzFields shows that there is no panic whatever is in the fields, and that Check returns a proof only after Verify has accepted the signature, and
+// only of the key whose hash Signature-Input has. This Verify accepts each text that has the form of a signed request, whatever its signature.
 func FuzzFields(f *testing.F) {
 	for _, row := range rowsOf(f) {
 		header := row.message.Header

@@ -1,3 +1,5 @@
+// Reads and writes canonical texts: S-expressions in canonical form, where a string is LENGTH:OCTETS.
+
 package verify
 
 import (
