@@ -168,7 +168,7 @@ class ByProgram(Engine):
         super().__init__()
         self.program = program
         # (the comma at its end is for `__main__.py`, which prints ` decides` behind the name)
-        self.name = "spki, compiled without proofs," if program == UNPROVED_PROGRAM else "spki"
+        self.name = "spki (compiled without proofs)" if program == UNPROVED_PROGRAM else "spki"
         self.signed = functools.lru_cache(CACHE_SIZE)(self.list_signed)
 
     def answer(self, name, text):

@@ -83,13 +83,13 @@ class Worker:
         return whole | {"notice": f"{late} took longer than {self.seconds} seconds and was stopped. A shorter text takes less."}, False
 
     def end(self):
-        """Ends the process, and the programs that it runs, and waits for that. Does nothing the second time, when another process may have its
+        """Ends the process and the programs that it runs, and waits for the process. Does nothing the second time, when another process may have its
         number."""
         with self.lock:
             if self.is_ended:
                 return
             self.is_ended = True
-            # (the group is not there yet, if the process has just been started)
+            # (the group is not there yet, if the process has just been started; where it cannot be ended, the process alone is)
             with contextlib.suppress(ProcessLookupError, PermissionError):
                 os.killpg(self.process.pid, signal.SIGKILL)
             self.process.kill()

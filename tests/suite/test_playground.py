@@ -788,7 +788,7 @@ class Starting(built.OfProgram):
                 self.addCleanup(started.kill)
                 lines = [started.stdout.readline() for _ in range(2)] if started.stdout else []
                 started.terminate()
-            self.assertRegex("".join(lines), r"^http://127\.0\.0\.1:.*\nspki, compiled without proofs, decides; ctrl-c ends the page\n$")
+            self.assertRegex("".join(lines), r"^http://127\.0\.0\.1:.*\nspki \(compiled without proofs\) decides; ctrl-c ends the page\n$")
 
     def test_a_port_that_is_not_free(self) -> None:
         with socket.create_server(("127.0.0.1", 0)) as other:
