@@ -2,7 +2,8 @@
 
 By the access list LIST key a may do everything, and may delegate it. PAIR is a certificate of a for key b with its signature, SIGNED what a verifier
 gets of the two, and SHOWN the sequence of PAIR alone. OWN is the same of a for itself, which may precede PAIR. FORGED is a sequence for key c, whose
-signature is not valid. `new_question` makes a question by b that shows SHOWN, but for the parts that a test names.
+signature is not valid. `new_question` makes a question by b that shows SHOWN, but for the parts that a test names. `Guard.ask` opens a question: a
+test marks each of its signatures that counts as valid by its place, from 0. An item is a certificate or a signature of a sequence, from 1.
 
 `tests/suite/test_bindings.py` compares the answers to many questions with the program's. Usage, in this folder:
 SPKI_LIBRARY=../../crates/spki_c/out/libspki_c.so python3 -m unittest
@@ -114,7 +115,7 @@ class Verifiers(unittest.TestCase):
             with self.assertRaises(TypeError):
                 self.guard.decide(new_question(), verify)
 
-    # Of three certificates the second has a wrong signature. It is item 3, since each signature is an item too.
+    # Of three certificates the second, item 3, has a wrong signature.
     def test_a_verifier_is_not_called_behind_the_first_wrong_signature(self):
         calls = []
 
@@ -132,8 +133,8 @@ class Verifiers(unittest.TestCase):
             with self.assertRaises(ZeroDivisionError):
                 ask(new_question(), fail)
 
-    # The verifier is called 40 times for each question. Of 40 times PAIR the second is `NotIssuer`: the subject is b by then. With 39 times OWN in
-    # front, one PAIR is granted.
+    # The verifier is called 40 times for each question. Of 40 times PAIR the second certificate, item 3, is `NotIssuer`: the subject is b by then.
+    # With 39 times OWN in front, one PAIR is granted.
     def test_a_verifier_is_called_for_each_of_many(self):
         calls = []
         guard = spki.Guard(LIST, limits=HIGHEST)
@@ -203,7 +204,7 @@ class OpenedQuestions(unittest.TestCase):
                 spki._mark(opened._open_handle(), -1)
 
     def test_marks_are_of_one_question(self):
-        """Two clients at once: what is marked for b grants nothing to c."""
+        """Two clients at once: what is marked for b grants nothing to c, and nothing to b in a question that is opened later."""
         good, bad = self.guard.ask(new_question()), self.guard.ask(new_question(FORGED, b"(public-key (test c))"))
         self.assertTrue(good.is_possible and bad.is_possible)
         for opened in (good, bad):
@@ -251,7 +252,7 @@ class OpenedQuestions(unittest.TestCase):
             self.assertEqual(opened.decide(), None)
 
     # The signatures may be verified by coroutines, all at the same time. The places of the valid ones are marked afterwards.
-    def test_signatures_are_verified_elsewhere(self):
+    def test_signatures_are_verified_by_coroutines(self):
         async def verify(signature):
             await asyncio.sleep(0)
             return signature == SIGNED
@@ -372,7 +373,8 @@ class OpenedQuestions(unittest.TestCase):
         self.assertEqual(places, [0, 0, 1, 2])
 
     def test_each_text_is_copied_once(self):
-        """Of each signature the key, the message and the value are copied once each. The octets of the value are a part of it."""
+        """Of each signature the key, the message and the value are copied once each: three slices of `_library.memory`, whose mock copies by another
+        call. The octets of the value are a part of it."""
         with mock.patch.object(_library, "memory", mock.MagicMock()) as memory, self.guard.ask(new_question()) as opened:
             memory.__getitem__.side_effect = lambda places: ctypes.string_at(places.start, places.stop - places.start)
             for read in (opened.signatures, lambda: opened.verify(accept_all)):
@@ -863,8 +865,8 @@ class Libraries(unittest.TestCase):
 @unittest.skipUnless(importlib.util.find_spec("setuptools"), "there is no setuptools; Debian: python3-setuptools")
 class Builds(unittest.TestCase):
     def test_a_build_has_the_library_that_is_named(self):
-        """A build has the file that SPKI_LIBRARY names, also if an earlier build in the same folder had another one: after `new` an older file,
-        none, and one that is not there, which fails."""
+        """A build has the file that SPKI_LIBRARY names, also if an earlier build in the same folder had another one. After `new` come an older file,
+        the word `none`, for which a build has no library, and a file that is not there, for which the build fails."""
         with tempfile.TemporaryDirectory() as folder:
             skipped = shutil.ignore_patterns("build", "*.egg-info", "__pycache__")
             package = shutil.copytree(os.path.dirname(os.path.realpath(__file__)), os.path.join(folder, "python"), ignore=skipped)

@@ -80,7 +80,8 @@ def rows() -> Iterator[tuple[str, spki_http.Message, int, int | None, str]]:
 
 
 def verifier_at(clock: list[int]) -> spki_http.Verifier:
-    """The service of the rows. `clock` is a list of the one time that it reads, which the test may change."""
+    """The service of the rows, which assume that it started at 1792000000, in seconds since 1970. `clock` is a list of the one time that it reads,
+    which the test may change."""
     return spki_http.Verifier("example.com", start=1792000000, now=lambda: clock[0])
 
 
@@ -291,7 +292,7 @@ class Clients(unittest.TestCase):
             with self.subTest(url), self.assertRaises(ValueError):
                 curve_signer().fields(method, url)
 
-    # Requests by `urllib`, also the same one twice with other signers, and one to a name that is not signed for.
+    # Requests by `urllib`, also one object that two signers sign in turn, and one to a host that the handler does not sign for.
     def test_urllib(self) -> None:
         def send(signer: spki_http.Signer, method: str, body: bytes | None) -> bytes:
             opener = urllib.request.build_opener(urllib.request.ProxyHandler({}), spki_http.Handler(signer, self.name))
