@@ -188,7 +188,7 @@ impl Guard {
     ///
     /// # Errors
     ///
-    /// The text is no access list, or an allocation failed.
+    /// The text is no access list, or is longer than 1,048,576 octets; an allocation failed.
     ///
     /// # Panics
     ///
