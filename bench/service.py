@@ -152,6 +152,7 @@ def opening_a_list(driver):
     over the entries of other keys by their subjects, and makes no index."""
     empty = len(case([], [], asks=key("a")))
     text = case(other_entries((MOST_OCTETS - empty) // len(other_entries(1)[0])), [], asks=key("a"))
+    # (two calls are enough: each reads 1 MiB)
     opening = driver.instructions("reopen", driver.write("list", parts_of(text)[0]), calls=2)
     checking = driver.instructions("answer", driver.write("case", text), calls=2)
     print(f"opening a list of {len(parts_of(text)[0]):,} octets {opening:,.0f} instructions, SPKI_CHECK on a case of it {checking:,.0f}", flush=True)
