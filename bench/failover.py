@@ -165,6 +165,7 @@ class Site:
         self.fail()
         failed = time.monotonic()
         time.sleep(wait)
+        # (the first replica is promoted, and its asker is the first too)
         if octets_received(self.replicas[1]) > octets_received(self.replicas[0]):
             self.replicas.reverse()
             self.askers.reverse()

@@ -1,6 +1,7 @@
 #!/usr/bin/env python3
 """Times `spki check` on texts whose time must be linear in their octets. `slowest.py` searches for others. Each text is a case: an access list,
-certificates, a row for each signature that is valid, and a question. `group` makes a list and `string` a string, in canonical form.
+certificates, a row for each signature that is valid, and a question. Mostly the key OTHER asks, which is granted nothing, so that every entry is
+tried. `group` makes a list and `string` a string, in canonical form.
 
 Each kind of text, a shape, is made for three lengths, by a function of a number of entries, a number of certificates and the most members of a set
 or list, which may ignore some of them. Times are processor times, the least of some runs. The ratio for 4 times the octets is that of times or that

@@ -156,14 +156,14 @@ class Recipe:
     # ---- how a text grows
 
     def with_list(self, number: int) -> "Recipe":
-        """The recipe with this as the growing number of its entries, which `entries.grows` names."""
+        """The recipe with `number` as the growing number of its entries: the field `entries.grows` of the entries, or of their tag."""
         entries, field = self.entries, self.entries.grows
         if field in ("count", "names"):
             return replace(self, entries=replace(entries, **{field: number}))
         return replace(self, entries=replace(entries, tag=replace(entries.tag, **{field: number})))
 
     def with_links(self, number: int) -> "Recipe":
-        """The recipe with this as the growing number of its certificates, or the recipe itself if none grows. `grows` names a field of the
+        """The recipe with `number` as the growing number of its certificates, or the recipe itself if none grows. `grows` names a field of the
         certificate at the place `grown`, or of its tag."""
         if not self.links or not self.grows:
             return self
