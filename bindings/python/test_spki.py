@@ -213,7 +213,7 @@ class OpenedQuestions(unittest.TestCase):
         again = self.guard.ask(new_question())
         self.assertEqual(again.decide(), None)
 
-    def test_clients_in_threads(self):
+    def test_marks_of_clients_in_threads_stay_apart(self):
         """Two clients in several threads: each answer is by the marks of its own question. A row of `answers` says whether the certificate is forged,
         and whether the request is granted."""
         answers = []
@@ -428,7 +428,7 @@ class Copies(unittest.TestCase):
         self.assertNotEqual(new_question(), None)
 
     # The `repr` of a guard and of an opened question says whether it is closed.
-    def test_repr(self):
+    def test_repr_says_what_is_closed(self):
         names = [repr(self.guard), repr(self.opened)]
         self.guard.close()
         self.opened.close()
@@ -513,7 +513,8 @@ class QuestionParts(unittest.TestCase):
     """The parts of a question."""
 
     def test_a_string_with_spaces_stays_one_string(self):
-        """A string with spaces, parentheses or a length in it stays one string of the request."""
+        """A string with spaces, parentheses or a length in it stays one string of the request: a path that ends with ` read` makes no `write` a
+        `read`."""
         guard = spki.Guard(b"(acl (entry (public-key (test b)) (tag (cache (* prefix /cache/team1/) read))))")
         for words, is_granted in [((b"cache", b"/cache/team1/a.o", b"read"), True), ((b"cache", b"/cache/team1/a.o read", b"write"), False),
                                   ((b"cache", b"/cache/team1/a.o 4:read", b"write"), False), ((b"cache", b"/cache/team1/\0)", b"read"), True),
@@ -547,7 +548,7 @@ class QuestionParts(unittest.TestCase):
         with self.assertRaises(TypeError):
             new_question(moment=datetime(2024, 1, 1))
 
-    def test_a_clock_that_failed(self):
+    def test_a_clock_that_failed_grants_nothing(self):
         """A right that has ended is not granted by a time before 1970, as that of a clock that failed."""
         guard = spki.Guard(b'(acl (entry (public-key (test b)) (tag (*)) (not-after "1999-12-31_23:59:59")))')
         self.assertTrue(guard.decide(new_question(b"(sequence)", moment=EPOCH), accept_all))
@@ -558,7 +559,7 @@ class QuestionParts(unittest.TestCase):
                 self.assertEqual(raised.exception.line, "refused at BadDate")
 
     # A part of a question that cannot be read raises `Refused` with the line of the program.
-    def test_refusals(self):
+    def test_a_refusal_names_the_part_and_the_fault(self):
         guard = spki.Guard(LIST)
         for question, line, fault in [
             (new_question(b"(sequence) x"), "refused sequence Trailing 11", "Trailing"), (new_question(b""), "refused sequence Short", "Short"),
@@ -614,7 +615,7 @@ class QuestionParts(unittest.TestCase):
         self.assertEqual(spki.canonical(OfFalseLength(b"(a)")), b"(1:a)")
         self.assertEqual(spki.string_at(OfFalseLength(b"3:abc")), b"abc")
 
-    def test_long_forms(self):
+    def test_long_forms_are_whole_in_bounded_memory(self):
         """The longest advanced form is that of octets which are printed in base64: 1,000 times `|AA==|` with 999 spaces, two parentheses and a line
         feed. For a text that is too long only three times the longest text is allocated, which is less than 1 << 22 octets."""
         self.assertEqual(len(spki.advanced(b"(" + b"1:\0" * 1000 + b")")), 7 * 1000 + 2)
@@ -649,7 +650,7 @@ class Guards(unittest.TestCase):
 
     # A hash by SHA-1 names a key under `ALLOW_SHA1` alone. `STRICT` is the default, and a policy is no number, also none that a cut to 32 bits makes
     # 0 or 1.
-    def test_policies(self):
+    def test_sha1_names_keys_by_allow_sha1_alone(self):
         digest = hashlib.sha1(spki.canonical(KEY)).hexdigest().encode()
         by_sha1 = b"(acl (entry (hash sha1 #%s#) (tag (*))))" % digest
         for policy, is_granted in [(spki.Policy.ALLOW_SHA1, True), (spki.Policy.STRICT, False)]:
@@ -686,7 +687,7 @@ class Guards(unittest.TestCase):
             self.assertEqual((raised.exception.line, raised.exception.part), ("refused TooLarge", None))
 
     # After `close` each of these calls on a guard or an opened question raises `ValueError`, and `close` may be called again.
-    def test_calls_after_close(self):
+    def test_calls_after_close_fail(self):
         with spki.Guard(LIST) as guard:
             self.assertTrue(guard.decide(new_question(), accept_all))
             opened = guard.ask(new_question())
@@ -786,7 +787,7 @@ class Texts(unittest.TestCase):
 
     # A path has the numbers of the members to go into. `string_at` is `None` for a path to a list, into a string, or to no member, and if the text is
     # not in canonical form.
-    def test_string_at(self):
+    def test_string_at_follows_a_path(self):
         key = spki.canonical(b"(public-key (rsa-pkcs1-sha256 (e #010001#) (n #c000ff#)))")
         self.assertEqual(spki.string_at(key, 1, 2, 1), b"\xc0\0\xff")
         self.assertEqual(spki.string_at(key, 0), b"public-key")

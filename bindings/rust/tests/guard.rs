@@ -338,7 +338,7 @@ fn a_value_that_is_a_list_has_no_octets() -> Outcome {
     Ok(())
 }
 
-/// A string with a space or a parenthesis in it stays one string of the request.
+/// A string with a space or a parenthesis in it stays one string of the request: a path that ends with ` read` makes no `write` a `read`.
 #[test]
 fn a_string_with_spaces_stays_one_string() {
     let guard =
