@@ -53,7 +53,7 @@ class Tag:
         """The number of nodes of the written tag, or a greater one."""
         own = 1
         if self.kind in ("list", "set"):
-            # (a list has a node for itself and one for its first string)
+            # (a leaf counts as one node. A list has a node for itself and one for its first string)
             own = self.members + self.depth * (1 if self.kind == "set" else 2)
         # (each list beside it has two, and the set around them all has one)
         return own + 2 * self.lists + (1 if self.lists else 0)

@@ -35,7 +35,7 @@ static double time_by(clockid_t clock)
     return time.tv_sec * 1e6 + time.tv_nsec / 1e3;
 }
 
-/* The time that passes, in µs. */
+/* What the monotonic clock shows, in µs. */
 static double now(void)
 {
     return time_by(CLOCK_MONOTONIC);
@@ -102,7 +102,7 @@ static void forget_peak(void)
     malloc_trim(0);
     FILE *file = fopen("/proc/self/clear_refs", "w");
     if (file) {
-        fputs("5", file);
+        fputs("5", file); /* (5 sets VmHWM, the most memory, to what is in use) */
         fclose(file);
     }
 }
