@@ -112,8 +112,8 @@ def span_in_words(span, promoted):
 
 
 def is_wrong(answer, removed, stale):
-    """Whether an answer, as an Asker has it, is wrong, by the head of this file. A 503 is not. `removed` is when the entry was removed, `stale` is
-    `stale_seconds`."""
+    """Whether an answer, as an Asker has it, is wrong: a grant by the removed entry, if the request began over `stale` seconds after `removed`, the
+    time of the removal; and another status than 200 of the entry that stays, or than 401 of anybody else. A 503 is never wrong."""
     begun, _, name, status = answer
     if name == GOES and status == 200:
         return begun > removed + stale

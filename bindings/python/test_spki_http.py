@@ -159,8 +159,8 @@ class Requests(unittest.TestCase):
                 clock[0] = now
                 self.assertEqual(answer(verifier, message), gives)
 
-    # The signature of the example by Ed25519 is made again, and both examples are verified. The first six strings of the parameters are the names of
-    # the components.
+    # The signature and the base of the example by Ed25519 are made again, and both examples are verified. The first six strings of the parameters are
+    # the names of the components.
     def test_examples_of_the_standard(self) -> None:
         private = load_der_private_key(base64.b64decode(PRIVATE), None)
         assert isinstance(private, Ed25519PrivateKey)
