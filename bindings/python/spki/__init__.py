@@ -129,8 +129,8 @@ class Asked(_Closable, NoDecision):
     """A question that was read, which is decided by the marks that it carries. It stays open when its guard is closed.
 
     A signature that is not marked is not valid, and a mark cannot be taken back. Several threads may use a question: a
-    mark and any other call wait for each other. After `close` a call raises `ValueError`, and one whose allocation fails
-    raises `Refused`.
+    mark and any other call wait for each other. After `close` its signatures, marks and answers raise `ValueError`. They
+    raise `Refused` if an allocation failed.
     """
 
     def __init__(self, guard: c_void_p, question: Question, answer_octets: int) -> None:
