@@ -62,7 +62,8 @@ def measure_ways(site, seconds):
 
 
 def print_processor_time(site, daemon, seconds):
-    """Prints the processor time of a request in the handler and in the daemon. Other programs change it less than they change a rate."""
+    """Prints the processor time of a request in the handler and in the daemon, whose process `daemon` is, from a load of `seconds` on each. Other
+    programs change it less than they change a rate."""
     _, port_of_handler, port_of_daemon = site.nginx
     for name, process, port in (("handler", site.handler, port_of_handler), ("daemon", daemon, port_of_daemon)):
         before = processor_seconds(process)
@@ -71,8 +72,8 @@ def print_processor_time(site, daemon, seconds):
 
 
 def measure_half_load(site, seconds, full):
-    """The figures at about half of the rate of `full`, which are figures too: each connection waits some random time before each request. Prints
-    them."""
+    """The Figures at about half of the rate of `full`, which are those at the highest rate: each connection waits some random time before each
+    request. Prints them."""
     connections = CONNECTIONS[-1]
     delay = round(1000 * connections / (full.rate / 2))
     figures = site.load(site.nginx[2], seconds, connections, delay)

@@ -40,7 +40,7 @@ def counted_with_cache(blocks):
 
 
 def counted_allocations(command, text):
-    """The blocks of memory that a command allocates on an open text, counted by valgrind."""
+    """The blocks of memory that a command allocates on an open text, counted by valgrind. Raises OSError if there is no valgrind."""
     done = subprocess.run(["valgrind", *command], stdin=text, capture_output=True)
     return int(re.search(rb"total heap usage: ([\d,]+) allocs", done.stderr).group(1).replace(b",", b""))
 

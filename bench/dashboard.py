@@ -47,6 +47,7 @@ def change_list(site, seconds):
         time.sleep(seconds / 4)
         with open(site.list, "wb") as file:
             file.write(text)
+        # (the reload of the broken list fails, so the status is not looked at)
         subprocess.run([site.program, "-reload", "-config", site.path("config.json")], stdout=subprocess.DEVNULL, stderr=subprocess.DEVNULL)
 
 

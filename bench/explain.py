@@ -26,6 +26,7 @@ COPIES = 999
 def measure_one_entry(count):
     """The largest ratio of the instructions of `explain`, by the counter `count`, to those of `check` on one entry, and the most MiB.
     Prints a line for each case."""
+    # (the first case is denied, and the other two are granted)
     texts = [("a chain by keys", by_keys(LENGTHS[-1], asks=key("other"))), ("a chain by hashes", by_hashes(LENGTHS[-1])),
              ("a chain through names", through_names(LENGTHS[-1]))]
     # (the first of `widest` has many entries)

@@ -92,8 +92,8 @@ class Asker(threading.Thread):
 
 
 def span_of_503(answers, failed):
-    """When the first 503 was received, and the first answer to a request after the last 503, in seconds since the failure. `answers` are those of
-    an Asker, and `failed` is the time of the failure. None if there is no 503. An Asker is ended once its daemon answers again, so an answer follows
+    """When the first 503 was received, and the first answer to a request after the last 503, in seconds since the failure. None if there is no 503.
+    `answers` are those of an Asker, and `failed` is the time of the failure. An Asker is ended once its daemon answers again, so an answer follows
     the last 503."""
     refused = [place for place, (_, _, _, status) in enumerate(answers) if status == 503]
     if not refused:
@@ -112,8 +112,8 @@ def span_in_words(span, promoted):
 
 
 def is_wrong(answer, removed, stale):
-    """Whether an answer, as an Asker has it, is wrong, by the head of this file. A 503 is not. `removed` is when the entry was removed, `stale` is
-    `stale_seconds`."""
+    """Whether an answer, as an Asker has it, is wrong: a grant by the removed entry, if the request began over `stale` seconds after `removed`, the
+    time of the removal; and another status than 200 of the entry that stays, or than 401 of anybody else. A 503 is never wrong."""
     begun, _, name, status = answer
     if name == GOES and status == 200:
         return begun > removed + stale
@@ -127,7 +127,8 @@ class Site:
 
     def __init__(self, stack, folder, program, stale, is_cut):
         """Starts all but the askers, and waits until both daemons have the entries. `stack` is the context that ends all, `folder` is for files,
-        `program` is the path of the daemon, `stale` its `stale_seconds`, and `is_cut` says whether the primary is to be cut off."""
+        `program` is the path of the daemon, `stale` its `stale_seconds`, and `is_cut` says whether the primary is to be cut off. Raises
+        AssertionError, as `waits_for` does, if something that it waits for does not come."""
         self.nodes, self.stale = nodes_of(stack) if is_cut else [None] * 4, stale
         self.primary = stack.enter_context(databases.Server(at=self.nodes[0], fsync="on"))
         self.store = store.new_store(self.primary)
@@ -157,13 +158,14 @@ class Site:
             os.kill(each, signal.SIGKILL)
 
     def fail_over(self, wait):
-        """Removes an entry, has the primary fail, and promotes a replica after some seconds. Returns when the entry was removed, the primary failed,
-        and the promotion began and ended."""
+        """Removes an entry, has the primary fail, and promotes the replica that has received most after `wait` seconds. Returns four times of
+        `time.monotonic`: when the entry was removed, the primary failed, and the promotion began and ended."""
         self.store.remove(self.number)
         removed = time.monotonic()
         self.fail()
         failed = time.monotonic()
         time.sleep(wait)
+        # (the first replica is promoted, and its asker is the first too)
         if octets_received(self.replicas[1]) > octets_received(self.replicas[0]):
             self.replicas.reverse()
             self.askers.reverse()
@@ -173,7 +175,8 @@ class Site:
         return removed, failed, begun, time.monotonic()
 
     def measure(self, wait):
-        """Measures a failover whose promotion begins after `wait` seconds, and prints it. Returns the sum of wrong answers and broken promises."""
+        """Measures a failover whose promotion begins after `wait` seconds, and prints it. Returns the sum of wrong answers and broken promises.
+        Raises AssertionError if the daemons do not answer again."""
         for each in self.askers:
             each.start()
         time.sleep(BEFORE + random.random())

@@ -1,6 +1,7 @@
 #!/usr/bin/env python3
 """Times `spki check` on texts whose time must be linear in their octets. `slowest.py` searches for others. Each text is a case: an access list,
-certificates, which signatures are valid, and a question. `group` makes a list and `string` a string, in canonical form.
+certificates, a row for each signature that is valid, and a question. Mostly the key OTHER asks, which is granted nothing, so that every entry is
+tried. `group` makes a list and `string` a string, in canonical form.
 
 Each kind of text, a shape, is made for three lengths, by a function of a number of entries, a number of certificates and the most members of a set
 or list, which may ignore some of them. Times are processor times, the least of some runs. The ratio for 4 times the octets is that of times or that
@@ -295,7 +296,8 @@ SHAPES = [
 
 
 def seconds_of(text):
-    """The least processor seconds of some runs, or None if a run was ended after MOST_SECONDS on the clock."""
+    """The least processor seconds of some runs, or None if a run was ended after MOST_SECONDS on the clock. Ends the script if the answer is not
+    `no`."""
     times = []
     while len(times) < RUNS and sum(times) < ENOUGH_SECONDS:
         try:

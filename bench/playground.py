@@ -37,7 +37,8 @@ class Timed(InChromium):
     engine = "library" if os.path.exists(f"{LIBRARY[:-2]}.so") else "program"
 
     def to_the_answer(self, question):
-        """The median of the seconds from a keystroke to the answer. `question` is a dictionary, whose `acl` and `sequence` are put into the page."""
+        """The median of the seconds from a keystroke to the answer. `question` is a dictionary, whose `acl` and `sequence` are put into the page.
+        Raises TimeoutException of Selenium if an answer does not come."""
         for name in ("acl", "sequence"):
             self.paste(name, question[name])
         # (until the page has answered to these texts)
@@ -45,7 +46,7 @@ class Timed(InChromium):
         return statistics.median(self.browser.execute_async_script(KEYSTROKE) for _ in range(RUNS))
 
     def to_the_first_paint(self):
-        """The median of the seconds from a reload to the first paint."""
+        """The median of the seconds from a reload to the first paint. Raises AssertionError, as `until` does, if it does not come."""
         seconds = []
         for _ in range(RUNS):
             self.browser.refresh()

@@ -53,7 +53,7 @@ class Tag:
         """The number of nodes of the written tag, or a greater one."""
         own = 1
         if self.kind in ("list", "set"):
-            # (a list has a node for itself and one for its first string)
+            # (a leaf counts as one node. A list has a node for itself and one for its first string)
             own = self.members + self.depth * (1 if self.kind == "set" else 2)
         # (each list beside it has two, and the set around them all has one)
         return own + 2 * self.lists + (1 if self.lists else 0)
@@ -156,14 +156,14 @@ class Recipe:
     # ---- how a text grows
 
     def with_list(self, number: int) -> "Recipe":
-        """The recipe with this as the growing number of its entries, which `entries.grows` names."""
+        """The recipe with `number` as the growing number of its entries: the field `entries.grows` of the entries, or of their tag."""
         entries, field = self.entries, self.entries.grows
         if field in ("count", "names"):
             return replace(self, entries=replace(entries, **{field: number}))
         return replace(self, entries=replace(entries, tag=replace(entries.tag, **{field: number})))
 
     def with_links(self, number: int) -> "Recipe":
-        """The recipe with this as the growing number of its certificates, or the recipe itself if none grows. `grows` names a field of the
+        """The recipe with `number` as the growing number of its certificates, or the recipe itself if none grows. `grows` names a field of the
         certificate at the place `grown`, or of its tag."""
         if not self.links or not self.grows:
             return self

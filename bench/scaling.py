@@ -166,6 +166,7 @@ def main():
     changes = 2 * ENTRIES / (DAYS * 86_400)
     print_row("assumed", f"changes a second where an entry stays {DAYS} days", f"{changes:.0f}")
     print_row("measured", "changes a second of one primary, each a transaction", f"{ADDS}")
+    # (the caches of all 12 daemons together keep a fifth of the keys)
     before, hits = after_loss(chance, count=10 ** 5, kept=10 ** 5 // 60, daemons=12)
     print_row("simulated", "hits before and after a third of the daemons is lost",
               f"{before:.3f}; " + ", ".join(f"{each:.3f}" for each in hits[:3]) + f" .. {hits[-1]:.3f}")

@@ -35,7 +35,7 @@ static double time_by(clockid_t clock)
     return time.tv_sec * 1e6 + time.tv_nsec / 1e3;
 }
 
-/* The time that passes, in µs. */
+/* What the monotonic clock shows, in µs. */
 static double now(void)
 {
     return time_by(CLOCK_MONOTONIC);
@@ -102,7 +102,7 @@ static void forget_peak(void)
     malloc_trim(0);
     FILE *file = fopen("/proc/self/clear_refs", "w");
     if (file) {
-        fputs("5", file);
+        fputs("5", file); /* (5 sets VmHWM, the most memory, to what is in use) */
         fclose(file);
     }
 }
@@ -152,7 +152,7 @@ static void ask_widest(const char *kind, const char *path)
 
 static atomic_bool stop;
 static struct held of_threads[MOST_THREADS];
-/* How often each thread did its work, and waited. `apart` keeps the numbers of two threads out of the same line of a processor's cache. */
+/* How often each thread did its work, and waited. `apart` fills 128 octets, so that the numbers of two threads are in no one line of a cache. */
 static struct { long count, waits; char apart[112]; } tallies[MOST_THREADS];
 
 /* How often the thread that calls this has waited for something else than a processor, as for a lock. */
@@ -209,7 +209,7 @@ static struct rate rate_of(void *(*work)(void *), size_t threads)
         total += tallies[i].count;
         waited += tallies[i].waits;
     }
-    /* (a 1 more, since a thread may have done nothing) */
+    /* (1 more, so that nothing is divided by 0 if the threads did no work) */
     return (struct rate){total / (now() - begun) * 1e6, waited * 1e3 / (total + 1)};
 }
 

@@ -152,6 +152,7 @@ def opening_a_list(driver):
     over the entries of other keys by their subjects, and makes no index."""
     empty = len(case([], [], asks=key("a")))
     text = case(other_entries((MOST_OCTETS - empty) // len(other_entries(1)[0])), [], asks=key("a"))
+    # (two calls are enough: each reads 1 MiB)
     opening = driver.instructions("reopen", driver.write("list", parts_of(text)[0]), calls=2)
     checking = driver.instructions("answer", driver.write("case", text), calls=2)
     print(f"opening a list of {len(parts_of(text)[0]):,} octets {opening:,.0f} instructions, SPKI_CHECK on a case of it {checking:,.0f}", flush=True)
@@ -456,7 +457,7 @@ def many_words(count):
 
 
 def request_of_nested_lists(count):
-    """The parts of a question for a request with 60 lists in one another, so many times."""
+    """The parts of a question for a request with 60 lists in one another, so many times. At most 64 lists may be open at once."""
     acl, sequence, asker, _, moment = parts_of(by_keys(1))
     inner = string("x")
     for _ in range(60):
@@ -474,6 +475,7 @@ def empty_strings(count):
 def two_long_keys(count):
     """The parts of a question with so many certificates, or one fewer if that is odd, of two long keys that differ late. The certificates name them
     by their hashes."""
+    # (the two keys take two thirds of 1 MiB, and the certificates the rest)
     keys = [key("k" * (MOST_OCTETS // 3) + end) for end in "ab"]
     links = [(certificate(digest(issuer), key("s")), digest(issuer)) for issuer in keys for _ in range(count // 2)]
     return parts_of(case([entry(digest(keys[0]))], links, keys, asks=key("s")))

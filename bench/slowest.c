@@ -39,9 +39,9 @@ static bool equals(const char *word, const char *other)
     return !strcmp(word, other);
 }
 
-/* Does one call, and takes its time in ms. The question is opened before an explanation or a reduction. A decision's time has the opening in
- * it, which finds out what the request would be granted by. What was opened is closed after the time is taken. Returns the status of the last
- * call. */
+/* Does one call, and sets `took` to its time in ms. `every` is as for `ask`. The question is opened before an explanation or a reduction is timed. A
+ * decision's time has the opening in it, since the opening finds out by which entry the request would be granted. What was opened is closed after
+ * the time is taken. Returns the status of the last call. */
 static enum spki_status time_call(struct held *held, const char *call, const struct spki_limits *limits, size_t every, double *took)
 {
     size_t needed;

@@ -127,9 +127,9 @@ def heartbeat(address, *before):
 
 
 def start_daemon(program, server, folder, number, **more):
-    """Starts a daemon with the store of a server, and waits for the first line that it writes, by which it listens. Returns its process and the path
-    of its socket. `number` distinguishes its files in `folder`, and `more` are further settings of its store. Ends the script if the daemon
-    ends before that line."""
+    """Starts a daemon with the store of a server, and waits, however long, for the first line that it writes, by which it listens. Returns its
+    process and the path of its socket. `number` distinguishes its files in `folder`, and `more` are further settings of its store. Ends the script if
+    the daemon ends before that line."""
     rules = [{"prefix": "/", "methods": {"GET": "read"}, "request": ["files", "{method}", "{path}"]}]
     path, config = os.path.join(folder, f"daemon-{number}"), os.path.join(folder, f"config-{number}")
     with open(config, "w", encoding="utf-8") as file:
@@ -163,7 +163,7 @@ def ask_by_people(server, library, count, program, number, rate, share=0.0):
 
 @contextlib.contextmanager
 def removing_added_entries(server):
-    """A context that removes the entries that are added within it."""
+    """A context that removes the entries that are added within it, unless it ends by an exception, which ends the bench."""
     from spki_store_tool.tables import Store
     with contextlib.closing(Store(server.address, SCHEMA)) as store:
         (last,), = store.rows("SELECT max(number) FROM {entries}")
@@ -292,6 +292,7 @@ def main():
     """Measures all. Returns the exit status: 1 if a limit is passed."""
     options = arguments()
     library = os.path.abspath(options.library)
+    # (the package `spki`, which `spki_store_tool` imports, reads this)
     os.environ["SPKI_LIBRARY"] = library.removesuffix(".a") + ".so"
     if options.share:
         faults = faults_of_scaling(options.entries, library, options.share, options.times)

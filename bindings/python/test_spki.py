@@ -2,7 +2,8 @@
 
 By the access list LIST key a may do everything, and may delegate it. PAIR is a certificate of a for key b with its signature, SIGNED what a verifier
 gets of the two, and SHOWN the sequence of PAIR alone. OWN is the same of a for itself, which may precede PAIR. FORGED is a sequence for key c, whose
-signature is not valid. `new_question` makes a question by b that shows SHOWN, but for the parts that a test names.
+signature is not valid. `new_question` makes a question by b that shows SHOWN, but for the parts that a test names. `Guard.ask` opens a question: a
+test marks each of its signatures that counts as valid by its place, from 0. An item is a certificate or a signature of a sequence, from 1.
 
 `tests/suite/test_bindings.py` compares the answers to many questions with the program's. Usage, in this folder:
 SPKI_LIBRARY=../../crates/spki_c/out/libspki_c.so python3 -m unittest
@@ -114,7 +115,7 @@ class Verifiers(unittest.TestCase):
             with self.assertRaises(TypeError):
                 self.guard.decide(new_question(), verify)
 
-    # Of three certificates the second has a wrong signature. It is item 3, since each signature is an item too.
+    # Of three certificates the second, item 3, has a wrong signature.
     def test_a_verifier_is_not_called_behind_the_first_wrong_signature(self):
         calls = []
 
@@ -132,8 +133,8 @@ class Verifiers(unittest.TestCase):
             with self.assertRaises(ZeroDivisionError):
                 ask(new_question(), fail)
 
-    # The verifier is called 40 times for each question. Of 40 times PAIR the second is `NotIssuer`: the subject is b by then. With 39 times OWN in
-    # front, one PAIR is granted.
+    # The verifier is called 40 times for each question. Of 40 times PAIR the second certificate, item 3, is `NotIssuer`: the subject is b by then.
+    # With 39 times OWN in front, one PAIR is granted.
     def test_a_verifier_is_called_for_each_of_many(self):
         calls = []
         guard = spki.Guard(LIST, limits=HIGHEST)
@@ -203,7 +204,7 @@ class OpenedQuestions(unittest.TestCase):
                 spki._mark(opened._open_handle(), -1)
 
     def test_marks_are_of_one_question(self):
-        """Two clients at once: what is marked for b grants nothing to c."""
+        """Two clients at once: what is marked for b grants nothing to c, and nothing to b in a question that is opened later."""
         good, bad = self.guard.ask(new_question()), self.guard.ask(new_question(FORGED, b"(public-key (test c))"))
         self.assertTrue(good.is_possible and bad.is_possible)
         for opened in (good, bad):
@@ -212,7 +213,7 @@ class OpenedQuestions(unittest.TestCase):
         again = self.guard.ask(new_question())
         self.assertEqual(again.decide(), None)
 
-    def test_clients_in_threads(self):
+    def test_marks_of_clients_in_threads_stay_apart(self):
         """Two clients in several threads: each answer is by the marks of its own question. A row of `answers` says whether the certificate is forged,
         and whether the request is granted."""
         answers = []
@@ -251,7 +252,7 @@ class OpenedQuestions(unittest.TestCase):
             self.assertEqual(opened.decide(), None)
 
     # The signatures may be verified by coroutines, all at the same time. The places of the valid ones are marked afterwards.
-    def test_signatures_are_verified_elsewhere(self):
+    def test_signatures_are_verified_by_coroutines(self):
         async def verify(signature):
             await asyncio.sleep(0)
             return signature == SIGNED
@@ -372,7 +373,8 @@ class OpenedQuestions(unittest.TestCase):
         self.assertEqual(places, [0, 0, 1, 2])
 
     def test_each_text_is_copied_once(self):
-        """Of each signature the key, the message and the value are copied once each. The octets of the value are a part of it."""
+        """Of each signature the key, the message and the value are copied once each: three slices of `_library.memory`, whose mock copies by another
+        call. The octets of the value are a part of it."""
         with mock.patch.object(_library, "memory", mock.MagicMock()) as memory, self.guard.ask(new_question()) as opened:
             memory.__getitem__.side_effect = lambda places: ctypes.string_at(places.start, places.stop - places.start)
             for read in (opened.signatures, lambda: opened.verify(accept_all)):
@@ -426,7 +428,7 @@ class Copies(unittest.TestCase):
         self.assertNotEqual(new_question(), None)
 
     # The `repr` of a guard and of an opened question says whether it is closed.
-    def test_repr(self):
+    def test_repr_says_what_is_closed(self):
         names = [repr(self.guard), repr(self.opened)]
         self.guard.close()
         self.opened.close()
@@ -511,7 +513,8 @@ class QuestionParts(unittest.TestCase):
     """The parts of a question."""
 
     def test_a_string_with_spaces_stays_one_string(self):
-        """A string with spaces, parentheses or a length in it stays one string of the request."""
+        """A string with spaces, parentheses or a length in it stays one string of the request: a path that ends with ` read` makes no `write` a
+        `read`."""
         guard = spki.Guard(b"(acl (entry (public-key (test b)) (tag (cache (* prefix /cache/team1/) read))))")
         for words, is_granted in [((b"cache", b"/cache/team1/a.o", b"read"), True), ((b"cache", b"/cache/team1/a.o read", b"write"), False),
                                   ((b"cache", b"/cache/team1/a.o 4:read", b"write"), False), ((b"cache", b"/cache/team1/\0)", b"read"), True),
@@ -545,7 +548,7 @@ class QuestionParts(unittest.TestCase):
         with self.assertRaises(TypeError):
             new_question(moment=datetime(2024, 1, 1))
 
-    def test_a_clock_that_failed(self):
+    def test_a_clock_that_failed_grants_nothing(self):
         """A right that has ended is not granted by a time before 1970, as that of a clock that failed."""
         guard = spki.Guard(b'(acl (entry (public-key (test b)) (tag (*)) (not-after "1999-12-31_23:59:59")))')
         self.assertTrue(guard.decide(new_question(b"(sequence)", moment=EPOCH), accept_all))
@@ -556,7 +559,7 @@ class QuestionParts(unittest.TestCase):
                 self.assertEqual(raised.exception.line, "refused at BadDate")
 
     # A part of a question that cannot be read raises `Refused` with the line of the program.
-    def test_refusals(self):
+    def test_a_refusal_names_the_part_and_the_fault(self):
         guard = spki.Guard(LIST)
         for question, line, fault in [
             (new_question(b"(sequence) x"), "refused sequence Trailing 11", "Trailing"), (new_question(b""), "refused sequence Short", "Short"),
@@ -612,7 +615,7 @@ class QuestionParts(unittest.TestCase):
         self.assertEqual(spki.canonical(OfFalseLength(b"(a)")), b"(1:a)")
         self.assertEqual(spki.string_at(OfFalseLength(b"3:abc")), b"abc")
 
-    def test_long_forms(self):
+    def test_long_forms_are_whole_in_bounded_memory(self):
         """The longest advanced form is that of octets which are printed in base64: 1,000 times `|AA==|` with 999 spaces, two parentheses and a line
         feed. For a text that is too long only three times the longest text is allocated, which is less than 1 << 22 octets."""
         self.assertEqual(len(spki.advanced(b"(" + b"1:\0" * 1000 + b")")), 7 * 1000 + 2)
@@ -647,7 +650,7 @@ class Guards(unittest.TestCase):
 
     # A hash by SHA-1 names a key under `ALLOW_SHA1` alone. `STRICT` is the default, and a policy is no number, also none that a cut to 32 bits makes
     # 0 or 1.
-    def test_policies(self):
+    def test_sha1_names_keys_by_allow_sha1_alone(self):
         digest = hashlib.sha1(spki.canonical(KEY)).hexdigest().encode()
         by_sha1 = b"(acl (entry (hash sha1 #%s#) (tag (*))))" % digest
         for policy, is_granted in [(spki.Policy.ALLOW_SHA1, True), (spki.Policy.STRICT, False)]:
@@ -684,7 +687,7 @@ class Guards(unittest.TestCase):
             self.assertEqual((raised.exception.line, raised.exception.part), ("refused TooLarge", None))
 
     # After `close` each of these calls on a guard or an opened question raises `ValueError`, and `close` may be called again.
-    def test_calls_after_close(self):
+    def test_calls_after_close_fail(self):
         with spki.Guard(LIST) as guard:
             self.assertTrue(guard.decide(new_question(), accept_all))
             opened = guard.ask(new_question())
@@ -784,7 +787,7 @@ class Texts(unittest.TestCase):
 
     # A path has the numbers of the members to go into. `string_at` is `None` for a path to a list, into a string, or to no member, and if the text is
     # not in canonical form.
-    def test_string_at(self):
+    def test_string_at_follows_a_path(self):
         key = spki.canonical(b"(public-key (rsa-pkcs1-sha256 (e #010001#) (n #c000ff#)))")
         self.assertEqual(spki.string_at(key, 1, 2, 1), b"\xc0\0\xff")
         self.assertEqual(spki.string_at(key, 0), b"public-key")
@@ -863,8 +866,8 @@ class Libraries(unittest.TestCase):
 @unittest.skipUnless(importlib.util.find_spec("setuptools"), "there is no setuptools; Debian: python3-setuptools")
 class Builds(unittest.TestCase):
     def test_a_build_has_the_library_that_is_named(self):
-        """A build has the file that SPKI_LIBRARY names, also if an earlier build in the same folder had another one: after `new` an older file,
-        none, and one that is not there, which fails."""
+        """A build has the file that SPKI_LIBRARY names, also if an earlier build in the same folder had another one. After `new` come an older file,
+        the word `none`, for which a build has no library, and a file that is not there, for which the build fails."""
         with tempfile.TemporaryDirectory() as folder:
             skipped = shutil.ignore_patterns("build", "*.egg-info", "__pycache__")
             package = shutil.copytree(os.path.dirname(os.path.realpath(__file__)), os.path.join(folder, "python"), ignore=skipped)

@@ -80,7 +80,8 @@ def rows() -> Iterator[tuple[str, spki_http.Message, int, int | None, str]]:
 
 
 def verifier_at(clock: list[int]) -> spki_http.Verifier:
-    """The service of the rows. `clock` is a list of the one time that it reads, which the test may change."""
+    """The service of the rows, which assume that it started at 1792000000, in seconds since 1970. `clock` is a list of the one time that it reads,
+    which the test may change."""
     return spki_http.Verifier("example.com", start=1792000000, now=lambda: clock[0])
 
 
@@ -158,8 +159,8 @@ class Requests(unittest.TestCase):
                 clock[0] = now
                 self.assertEqual(answer(verifier, message), gives)
 
-    # The signature of the example by Ed25519 is made again, and both examples are verified. The first six strings of the parameters are the names of
-    # the components.
+    # The signature and the base of the example by Ed25519 are made again, and both examples are verified. The first six strings of the parameters are
+    # the names of the components.
     def test_examples_of_the_standard(self) -> None:
         private = load_der_private_key(base64.b64decode(PRIVATE), None)
         assert isinstance(private, Ed25519PrivateKey)
@@ -198,7 +199,7 @@ class Requests(unittest.TestCase):
         for copied in (copy.copy(refused), pickle.loads(pickle.dumps(refused))):
             self.assertEqual((copied.name, str(copied)), ("absent", "the request proves no key: absent"))
 
-    def test_a_request_without_a_host(self) -> None:
+    def test_a_request_without_a_host_is_refused(self) -> None:
         """A request without Host, for which `http.server` has None, is to no name of the service."""
         message, now = self.valid_message()
         for authority in ("", None):
@@ -221,7 +222,7 @@ class Requests(unittest.TestCase):
 
     # Each nonce is kept for 360 s at least, in two sets of at most 2 nonces. `now` is in seconds. A young set begins at 1000, 1360, 1720 and 3000.
     # The one before it is then the old set, and is dropped at 3000, since it is over 720 s old. At 900 the clock has gone back.
-    def test_nonces(self) -> None:
+    def test_nonces_are_kept_in_two_sets(self) -> None:
         store = spki_http.Memory(2)
         for nonce, now, wanted in (
             ("a", 1000, ""), ("a", 1000, "nonce-seen"), ("b", 1100, ""), ("c", 1359, "store-full"), ("b", 1359, "nonce-seen"), ("c", 1360, ""),
@@ -258,7 +259,7 @@ class Clients(unittest.TestCase):
             for method, body in (("GET", None), ("PUT", b"some octets"), ("PUT", b""), ("DELETE", None)):
                 self.assertEqual(send(signer, method, body), signer.key, method)
 
-    def test_numbers_of_signatures(self) -> None:
+    def test_numbers_of_signatures_get_their_share(self) -> None:
         """A number of a signature gets its share of the octets, with fewer or more octets 00 in front; the halves of Ed25519 are no numbers. Without
         a length the strings stay as they are."""
         def value(kind: bytes, *strings: bytes) -> bytes:
@@ -271,7 +272,7 @@ class Clients(unittest.TestCase):
         self.assertEqual(spki_http.octets_of(b"(7:sig-val(3:rsa(1:s3:\0ab)))", 4), b"\0\0ab")
         self.assertEqual(spki_http.octets_of(value(b"ecdsa", b"\0r", b"ss")), b"\0rss")
 
-    def test_covered_fields(self) -> None:
+    def test_named_fields_are_covered_once(self) -> None:
         """The signature covers a field that the caller names, once, also if it is named twice or must be covered anyway. A name that the request has
         no field of is refused, also if the field must be covered where it is there. So is a name in capital letters."""
         signer, own_fields = curve_signer(), [("X-Job", "7")]
@@ -291,8 +292,8 @@ class Clients(unittest.TestCase):
             with self.subTest(url), self.assertRaises(ValueError):
                 curve_signer().fields(method, url)
 
-    # Requests by `urllib`, also the same one twice with other signers, and one to a name that is not signed for.
-    def test_urllib(self) -> None:
+    # Requests by `urllib`, also one object that two signers sign in turn, and one to a host that the handler does not sign for.
+    def test_handler_signs_requests_of_urllib(self) -> None:
         def send(signer: spki_http.Signer, method: str, body: bytes | None) -> bytes:
             opener = urllib.request.build_opener(urllib.request.ProxyHandler({}), spki_http.Handler(signer, self.name))
             with opener.open(urllib.request.Request(self.url, body, method=method)) as response:
@@ -307,7 +308,7 @@ class Clients(unittest.TestCase):
         self.assertEqual((raised.exception.code, raised.exception.reason), (401, "absent"))
         raised.exception.close()
 
-    def test_requests(self) -> None:
+    def test_auth_signs_requests(self) -> None:
         """`Auth` signs a request like that of `requests`, which has `body`, and one like that of `httpx`, which has `content`. It adds nothing to one
         for another host, and refuses a stream."""
         class Prepared:

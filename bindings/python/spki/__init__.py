@@ -120,8 +120,8 @@ class _Closable(_NotCopied):
         self.close()
 
     def close(self) -> None:
-        """Closes it. Calls that are under way in other threads end as usual, and then its memory is freed. Later calls
-        raise `ValueError`, but for `close`, `repr`, `len`, `bool` and the begin of a `with`."""
+        """Closes the guard or the opened question. Calls that are under way in other threads still answer, and then its
+        memory is freed. Later calls raise `ValueError`, but for `close`, `repr`, `len`, `bool` and the begin of a `with`."""
         self._handle = None
 
 
@@ -129,7 +129,8 @@ class Asked(_Closable, NoDecision):
     """A question that was read, which is decided by the marks that it carries. It stays open when its guard is closed.
 
     A signature that is not marked is not valid, and a mark cannot be taken back. Several threads may use a question: a
-    mark and any other call wait for each other.
+    mark and any other call wait for each other. After `close` its signatures, marks and answers raise `ValueError`. They
+    raise `Refused` if an allocation failed.
     """
 
     def __init__(self, guard: c_void_p, question: Question, answer_octets: int) -> None:
@@ -238,8 +239,8 @@ class Guard(_Closable):
     """
 
     def __init__(self, access_list: bytes, policy: Policy = Policy.STRICT, limits: Limits = Limits()) -> None:
-        """Reads `(acl entry ..)`, in any of the three forms. Raises `Refused` if the text is no access list, or is longer
-        than 1,048,576 octets, and `TypeError` for arguments of other types."""
+        """Reads `(acl entry ..)`, in any of the three forms. `limits` bound its questions and answers. Raises `Refused` if
+        the text is no access list, or is longer than 1,048,576 octets, and `TypeError` for arguments of other types."""
         if not isinstance(policy, Policy) or not isinstance(limits, Limits):
             raise TypeError("a guard has a `Policy` and `Limits`")
         text, self._policy, self._answer_octets = octets_of(access_list), policy, limits.answer or _library.USUAL_ANSWER

@@ -59,8 +59,8 @@ fn line_of(reason: Reason) -> String {
     )
 }
 
-/// Reads the next question, and returns its answer without the last line feed. `None` at the end of the input, or if a part of the question is not as
-/// the head of this file says.
+/// Reads the next question, and returns its answer without the last line feed. `None` at the end of the input, or if a number is not one. Panics if
+/// octets are cut off, or if a request by `text` has no string.
 fn answer(input: &mut Input) -> Option<Result<String, Refusal>> {
     let (command, policy, limits) = (input.text()?, input.text()?, input.text()?);
     let mut next = || input.next().map(<[u8]>::to_vec);
@@ -92,8 +92,8 @@ fn answer(input: &mut Input) -> Option<Result<String, Refusal>> {
     Some(guard.and_then(|guard| answer_to(&command, &guard, &question, &accepted)))
 }
 
-/// Asks the guard the question, and answers by the command: `reduce`, `explain`, or any other for a decision. A signature is valid if its key,
-/// message and value are a row of `accepted`, which has three strings for each. A refusal alone is an error: a denial is the answer `no`.
+/// Asks the guard the question, and answers by the command: `reduce`, `explain`, or any other for a decision. `accepted` has three strings for each
+/// signature that is valid: its key, its message and its value. A refusal alone is an error: a denial is the answer `no`.
 fn answer_to(
     command: &str,
     guard: &Guard,

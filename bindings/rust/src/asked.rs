@@ -175,11 +175,11 @@ impl Asked {
     /// The request is not granted: no entry grants it, or an allocation failed.
     pub fn decide(&self) -> Result<Grant, Denied> {
         // (for an error of a verifier that never fails: none is called here)
-        self.decided()
+        self.decide_after_verifying()
     }
 
     /// Like `decide`, for a caller whose verifier may fail with an `E`. It never returns `Denied::Verifier`: nothing is verified here.
-    pub(crate) fn decided<E>(&self) -> Result<Grant, Denied<E>> {
+    pub(crate) fn decide_after_verifying<E>(&self) -> Result<Grant, Denied<E>> {
         let call = |buffer, room, needed| self.call(sys::spki_asked_decide, (buffer, room, needed));
         call_for_line(call, |decision: sys::Decision, line| {
             match decision.status {

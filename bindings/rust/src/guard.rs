@@ -188,7 +188,7 @@ impl Guard {
     ///
     /// # Errors
     ///
-    /// The text is no access list, or an allocation failed.
+    /// The text is no access list, or is longer than 1,048,576 octets; an allocation failed.
     ///
     /// # Panics
     ///
@@ -268,7 +268,7 @@ impl Guard {
         if asked.count() > 0 && asked.is_possible() {
             asked.verify(verify)?;
         }
-        asked.decided()
+        asked.decide_after_verifying()
     }
 
     /// Decides whether the question's request is granted, by a [`Verifier`]. Only `Ok` is a yes.

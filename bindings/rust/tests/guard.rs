@@ -4,7 +4,8 @@
 //! By the access list LIST key a may do everything, and may delegate it. PAIR is a certificate of a for key b with its signature, and SIGNED what a
 //! verifier gets of the two. OWN is the same of a for itself, which may precede PAIR. FORGED is a sequence for key c, whose signature is not valid. A
 //! question is by b (KEY), for the request WORDS, at NOW, but for the parts that a test gives it. `sequence_of(2)` has PAIR twice. `guard` has the
-//! highest limits.
+//! highest limits. `Guard::ask` opens a question: its signatures have places, from 0, by which a test marks those that count as valid. An item is a
+//! certificate or a signature of a sequence, from 1.
 
 use spki::{
     Asked, Cause, Denied, Explanation, Fault, Grant, Guard, Limits, Moment, NotProved, Part,
@@ -75,7 +76,7 @@ fn refusal_line<T: std::fmt::Debug>(result: Result<T, Denied>) -> String {
     }
 }
 
-/// Entry, item and word of each line of an explanation.
+/// Of each line of an explanation: the numbers of the entry and of the item, each None if the line has none, and the word.
 fn lines(explanation: &Explanation) -> Vec<(Option<usize>, Option<usize>, &str)> {
     let reasons = explanation.reasons();
     reasons
@@ -98,9 +99,9 @@ fn a_verifier_is_given_what_is_signed() -> Outcome {
     Ok(())
 }
 
-/// Of three certificates the second has a wrong signature. It is item 3, since each signature is an item too.
+/// Of three certificates the second, item 3, has a wrong signature.
 #[test]
-fn a_verifier_is_not_called_behind_the_first_wrong_one() -> Outcome {
+fn a_verifier_is_not_called_behind_the_first_wrong_signature() -> Outcome {
     let invalid = PAIR.replace("sig)", "invalid)");
     let sequence = format!("(sequence {PAIR} {invalid} {PAIR})");
     let guard = guard(LIST);
@@ -337,7 +338,7 @@ fn a_value_that_is_a_list_has_no_octets() -> Outcome {
     Ok(())
 }
 
-/// A string with a space or a parenthesis in it stays one string of the request.
+/// A string with a space or a parenthesis in it stays one string of the request: a path that ends with ` read` makes no `write` a `read`.
 #[test]
 fn a_string_with_spaces_stays_one_string() {
     let guard =
@@ -680,7 +681,6 @@ fn several_threads_ask_one_guard() -> Outcome {
     let sequence = sequence_of(1);
     let mut asked = guard.ask(&question_showing(&sequence))?;
     asked.mark(0)?;
-    let asked = asked;
     std::thread::scope(|scope| {
         for _ in 0..8 {
             scope.spawn(|| {

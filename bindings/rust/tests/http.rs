@@ -220,7 +220,8 @@ fn a_body_that_no_field_says_needs_a_digest() {
     }
 }
 
-/// A stranger may send a key by RSA whose modulus has no octets but 00, so that its signature has none. It proves nothing.
+/// A stranger may send a key by RSA whose modulus has no octets but 00, so that its signature has none. It proves nothing, also where the verifier
+/// accepts each signature.
 #[test]
 fn a_modulus_of_nothing_proves_no_key() {
     let input = format!(

@@ -13,7 +13,7 @@ thread_local! {
     static GRANTS: Cell<usize> = const { Cell::new(usize::MAX) };
 }
 
-/// Whether a request for memory is refused. Counts it if it is large.
+/// Whether a request for so many octets is refused. Counts it if it is large.
 fn refuses(octets: usize) -> bool {
     let left = GRANTS.get();
     if octets >= LARGE {
@@ -53,9 +53,9 @@ unsafe impl GlobalAlloc for ShortMemory {
 #[global_allocator]
 static MEMORY: ShortMemory = ShortMemory;
 
-/// Makes a call with all large requests for memory granted, and then with so many, for each number from 0 to 3. Without any it must be refused. With
-/// one, for the buffer of its answer, or more it must answer as with all.
-fn check<T: PartialEq + std::fmt::Debug>(call: impl Fn() -> Result<T, Refusal>) {
+/// Makes a call with all large requests for memory granted, and then with only the first 0, 1, 2 and 3 of them. With none the call must be refused.
+/// With one, for the buffer of its answer, or more it must answer as with all.
+fn check_with_few_grants<T: PartialEq + std::fmt::Debug>(call: impl Fn() -> Result<T, Refusal>) {
     let wanted = call().expect("an answer");
     for grants in 0..4 {
         GRANTS.set(grants);
@@ -72,9 +72,9 @@ fn check<T: PartialEq + std::fmt::Debug>(call: impl Fn() -> Result<T, Refusal>) 
 #[test]
 fn forms_are_refused_without_memory() {
     let text = [b"(a ", &[b'b'; 2 * LARGE][..], b")"].concat();
-    check(|| spki::canonical(&text));
-    check(|| spki::advanced(&text));
-    check(|| spki::transport(&text));
+    check_with_few_grants(|| spki::canonical(&text));
+    check_with_few_grants(|| spki::advanced(&text));
+    check_with_few_grants(|| spki::transport(&text));
 }
 
 /// The lines of a list of `LARGE` entries. Each entry has a line, so they have more than `LARGE` octets.
@@ -93,6 +93,6 @@ fn explanations_and_reductions_are_refused_without_memory() {
         Moment::Seconds(0),
     );
     let asked = guard.ask(&question).expect("a question");
-    check(|| asked.explain());
-    check(|| asked.reduce());
+    check_with_few_grants(|| asked.explain());
+    check_with_few_grants(|| asked.reduce());
 }

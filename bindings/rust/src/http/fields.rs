@@ -40,7 +40,7 @@ pub(super) struct Input<'a> {
     pub(super) tag: &'a str,
 }
 
-/// Takes a field apart from the left. Each call returns what the rest begins with, and goes behind it.
+/// Takes a field apart from the left. A call reads what the rest begins with, and goes behind it.
 struct Parser<'a> {
     rest: &'a str,
     /// Whether an octet beyond ASCII follows the rest.

@@ -50,7 +50,7 @@ impl TakeNonce for Nonces {
     fn take(&self, key: &[u8], nonce: &str, now: u64, seconds: u64) -> Result<(), Unproved> {
         let hash = self.hasher.hash_one((key, nonce));
         let mut sets = self.sets.lock().unwrap_or_else(PoisonError::into_inner);
-        sets.turn(now, seconds);
+        sets.forget_old(now, seconds);
         if sets.old.contains(&hash) || sets.young.contains(&hash) {
             return Err(Unproved::NonceSeen);
         }
@@ -63,9 +63,9 @@ impl TakeNonce for Nonces {
 }
 
 impl Sets {
-    /// Makes the young set the old one once it is `seconds` old, and begins an empty one. One that is twice as old is forgotten as well. If the clock
-    /// went back, nothing is forgotten.
-    fn turn(&mut self, now: u64, seconds: u64) {
+    /// Makes the young set the old one once it is `seconds` old at `now`, in seconds since 1970, and begins an empty one. If it is twice as old, its
+    /// nonces are forgotten at once. If the clock went back, nothing is forgotten.
+    fn forget_old(&mut self, now: u64, seconds: u64) {
         let age = now.saturating_sub(self.young_since);
         if age < seconds {
             return;
