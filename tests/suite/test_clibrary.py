@@ -86,7 +86,7 @@ def questions_of_files(program):
 
 
 def questions_of_tables():
-    """Yields the rows of the tables, as pairs of a question (place, number of a command, text, no separate rows) and the wanted status and octets."""
+    """Yields for each command and text of tests/tables/ a question (place, number of the command, text, no separate rows), and the answer wanted."""
     for table in tables_here():
         for place, command, text, status, answer in rows_of(table):
             number = COMMANDS.index(command)
@@ -142,15 +142,15 @@ def questions_by_hand():
 
 def answers_of(words, questions):
     """Runs `clibrary.c` by these words on questions, which are pairs with the wanted answers. Returns its status, what it writes to standard error,
-    and its answers, each a status and octets."""
+    and its answers, each a status and octets: it writes `STATUS LENGTH`, a line feed and the octets."""
     octets = b"".join(b"%d %d %d\n%s%s" % (command, len(text), len(rows), text, rows) for (_, command, text, rows), _ in questions)
     done = subprocess.run(words, input=octets, capture_output=True, timeout=SECONDS)
     answers, at = [], 0
     while at < len(done.stdout):
-        line = done.stdout.index(b"\n", at)
-        status, length = map(int, done.stdout[at:line].split())
-        at = line + 1 + length
-        answers.append((status, done.stdout[line + 1:at]))
+        line_feed = done.stdout.index(b"\n", at)
+        status, length = map(int, done.stdout[at:line_feed].split())
+        at = line_feed + 1 + length
+        answers.append((status, done.stdout[line_feed + 1:at]))
     return done.returncode, done.stderr.decode(errors="replace"), answers
 
 
@@ -376,7 +376,7 @@ class Head(OfC):
 
 static bool is_signed(const struct spki_signed *it)
 {
-    return it->value.length == 5;
+    return it->value.length == 5; /* (3:sig) */
 }
 
 int main(void)

@@ -55,7 +55,7 @@ class TestWithKeys(CommandTest):
         self.sign("--propagate", "-o", "to-bob")
 
     def sign(self, *words, by="alice", to="bob.pub", tag="(packages read)", wanted=0, days=("--days", "30")):
-        """Runs `spki-cert sign`, with more options in `words`. It must end with the status `wanted`. Returns what it writes."""
+        """Runs `spki-cert sign`, with options of validity in `days` and others in `words`. Its status must be `wanted`. Returns what it writes."""
         return self.cert("sign", "--by", by, "--to", to, "--tag", tag, *days, *words, wanted=wanted)
 
     def changes_nothing(self, *words, message="", wanted=2):

@@ -3,7 +3,7 @@ questions are asked, 20,000 in a long run. Only a long run asks daemons at repli
 tables: `entries`, the `ended` certificates, `changes` (the log), `imports`, a `heartbeat`, and `chains`, the certificates that clients leave.
 `Store.rows(STATEMENT, VALUE ..)` runs a statement in which `{entries}` is that table, and returns its rows. `self.spki_store(STATUS, WORD ..)` runs
 the command, which must end with this status: 0 is done, 1 something wrong or missing, 2 a refusal, 3 a fault of the database or a file. A daemon
-answers a request with 200 to grant it, 401 or 403 to deny it, and 503 if the state of its store is stale."""
+answers a request with 200 to grant it, 401 or 403 to deny it, and 503 if the state of its store is stale. A wait fails the test after 600 seconds."""
 import argparse
 import contextlib
 import hashlib
@@ -93,7 +93,7 @@ class OfStore(built.OfLibrary):
         return process
 
     def wait_for_beat(self) -> None:
-        """Waits for the first beat: the state that `init` made may be stale before it, and something may fail before the program has begun."""
+        """Waits for the first beat: before it the state that `init` made may be stale, and a test may stop the server before `beat` has begun."""
         waits_for("the first beat", lambda: bool(self.store.rows("SELECT 1 FROM {heartbeat} WHERE number > 0")))
 
 
@@ -102,7 +102,7 @@ class Command(OfStore):
 
     def test_commands_one_after_another(self) -> None:
         """Entries are imported, added, removed, compared, checked, listed in the log and exported."""
-        path = self.file(b"(acl (entry (public-key (test a)) (tag (*)))" + ENTRY_OF_ZEROS.replace(b"(5:", b" (5:", 1) + b")", "list.sexp")
+        path = self.file(b"(acl (entry (public-key (test a)) (tag (*))) " + ENTRY_OF_ZEROS + b")", "list.sexp")
         self.assertEqual(self.spki_store(0, "import", path), "entries added: 2\n")
         self.assertIn("imported before", self.spki_store(2, "import", path))
         self.assertEqual(self.spki_store(0, "diff", path), "entries that differ: 0\n")
