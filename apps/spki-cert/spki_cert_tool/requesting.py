@@ -22,7 +22,7 @@ def request(given: argparse.Namespace) -> int:
     status, with --curl that of curl. Raises Refused or BadKey."""
     from spki_http import Signer
     method = given.method or ("PUT" if given.body is not None else "GET")
-    body = octets_of(given.body, -1) if given.body is not None else None
+    body = octets_of(given.body, most=-1) if given.body is not None else None
     if not METHOD.fullmatch(method):
         raise Refused(f"{method}: a method is in capital letters, as PUT")
     if not ADDRESS.fullmatch(given.address):

@@ -131,7 +131,7 @@ def remarks(node: Node, is_outermost: bool = True) -> Iterator[Place]:
         text = on_one_line(node.value)
         yield node.begin, f"`{text}` contains only lists that begin so; what contains each of these words is `(* set {text[1:]}`"
     for member in rest:
-        yield from remarks(member, False)
+        yield from remarks(member, is_outermost=False)
 
 
 def remarks_on_string(node: Node) -> Iterator[Place]:
