@@ -575,7 +575,7 @@ class OfTags(CommandTest):
 class OfWords(CommandTest):
     """What `spki-cert ask` says of a reason."""
     def test_each_reason_of_the_model_has_words(self):
-        """Each reason that `ask` chooses for a generated case has words, also these five. Cases of 20,000 octets or more would take long."""
+        """Each reason that `ask` chooses for a generated case has words, and these five occur. (Cases of 20,000 octets or more would take long.)"""
         chosen = set()
         for asked in (question("spki-cert", number) for number in range(1500)):
             if asked.command not in ("check", "explain", "reduce"):

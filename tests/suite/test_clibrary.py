@@ -291,7 +291,7 @@ class Links(OfC):
 
     def check_linking(self, *words):
         """`linked.c` must be compiled and linked in each way, and end with status 0. `words` are a compiler and its options. In the last way there
-        are two copies of the static library, one with other names for the calls: they must not clash."""
+        are two copies of the static library, one with other names for the calls: they must not clash. (By `-x none` no library is read as C++.)"""
         other, program = os.path.join(self.room, "libother.a"), os.path.join(self.room, "linked")
         source = os.path.join(TESTS, "programs", "linked.c")
         renamed = [f"--redefine-sym={name}=other_{name}" for name in calls_of_header()]
@@ -489,8 +489,8 @@ class Fuzzed(OfC):
     """`fuzz/calls.c`: the answers to fuzzed parts, through an spki.c that is checked as well."""
 
     def check_fuzzing(self, *flags):
-        """Fuzzing by libFuzzer, with the options `flags`, must find no fault. A text that leads to one is written to tests/out/. spki.c is compiled
-        here under AddressSanitizer too, and linked with the archive of the proved code alone."""
+        """Fuzzing by libFuzzer, with the options `flags`, must find no fault in texts of 1,500 octets at most. A text that leads to one is written to
+        tests/out/. spki.c is compiled here under AddressSanitizer too, and linked with the archive of the proved code alone."""
         program, folder, to = (os.path.join(*words) for words in ((self.room, "fuzz"), (TESTS, "fuzz"), (TESTS, "out")))
         sources = [os.path.join(folder, "calls.c"), *(os.path.join(CRATE, name) for name in ("spki.c", "heap.c"))]
         proved = os.path.join(os.path.dirname(built.library()), "proved", "libspki_c.a")

@@ -186,8 +186,8 @@ def most_work():
 # ---- what is done with an example: each returns the number of runs, the number of refusals, and the faults
 
 def refused_in_turn(program, example, behind):
-    """Runs of an example in which the Nth request for memory is refused, for each N up to one more than it makes, or for some of them if these are
-    very many. `behind` is "", or ".." if all later requests are refused too. The requests before the first read are for the words of the command
+    """Runs of an example in which the Nth request for memory is refused, for each N up to one more than it makes, or for some 100 of them if these
+    are over 1,000. `behind` is "", or ".." if all later requests are refused too. The requests before the first read are for the words of the command
     line, and the same on each text, so only the example WORDS_REFUSED has them refused. The crate clap, which reads these words, may do without the
     memory, and the answer is then as ever. Returns the number of runs, of refusals, and the faults."""
     whole = program.run(example.command, example.text)

@@ -520,7 +520,7 @@ class InChromium(OfPage):
     @classmethod
     def setUpClass(cls) -> None:
         super().setUpClass()
-        sys.path.append(needs.DEBIAN)
+        sys.path.append(needs.DEBIAN)  # (selenium is a module of Debian)
         from selenium import webdriver
         from selenium.webdriver.chrome.service import Service
         options = webdriver.ChromeOptions()

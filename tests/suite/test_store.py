@@ -174,7 +174,7 @@ class Command(OfStore):
         self.assertIn("wrong 0", self.spki_store(0, "check"))
 
     def test_two_imports_at_once(self) -> None:
-        """An import adds nothing if another import of the same list ends meanwhile: here just before the first one adds its entries."""
+        """An import is refused if another import of the same list ends meanwhile: here that runs where the first one would add its entries."""
         path = self.file(b"(3:acl" + ENTRY + b")")
         with mock.patch.object(self.store, "add_many", lambda _: self.spki_store(0, "import", path)), self.assertRaises(texts.Wrong):
             transfer.import_list(self.store, path, is_shown=False)
