@@ -13,7 +13,7 @@ from .places import ALONE, BY_HEAD, Lines, places_of, read_text, refusal
 from .sexp import canonical
 from .showing import FAULTS, what_is
 from .structures import read_tag
-from .tag_words import MOST_PRODUCTS, contains, is_everything, remarks
+from .tag_words import MOST_PRODUCTS, gives_all_of, is_everything, remarks
 
 # The suffixes of the files in a folder that are always looked at.
 S_EXPRESSIONS, OTHER_KEYS = (".sexp", ".csexp", ".tsexp"), (".pub", ".pem", ".key")
@@ -194,7 +194,7 @@ def needless_entries(node: Node) -> Iterator[tuple[int, str]]:
         if work_left < 0:
             return
         # (of two that give the same only the later one is needless)
-        if index not in needless and contains(wide, narrow, keys) and (wide_index < index or not contains(narrow, wide, keys)):
+        if index not in needless and gives_all_of(wide, narrow, keys) and (wide_index < index or not gives_all_of(narrow, wide, keys)):
             needless.add(index)
             yield narrow_node.begin, f"entry {wide_index + 1} gives all of entry {index + 1}: remove entry {index + 1}"
 

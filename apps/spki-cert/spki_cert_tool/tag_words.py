@@ -95,7 +95,7 @@ def covers(wide: Value, narrow: Value) -> bool:
     return isinstance(narrow, bytes) and holds(wide, narrow)
 
 
-def contains(wide: Terms, narrow: Terms, keys: Keys) -> bool:
+def gives_all_of(wide: Terms, narrow: Terms, keys: Keys) -> bool:
     """Whether the entry `wide` gives all that the entry `narrow` gives: to the same subject, for at least as long, and with delegation if `narrow`
     has it. As `covers`, it may be False although it does. `keys` are those that hashes may name."""
     is_one_subject = wide.names == narrow.names and keys.are_one(wide.principal, narrow.principal)
