@@ -79,11 +79,11 @@ class OfStore(built.OfLibrary):
 
     def spki_store(self, wanted: int, *words: str) -> str:
         """Runs `spki-store` in this process. It must end with the status `wanted`. Returns what it writes on both streams."""
-        out, fault = io.StringIO(), io.StringIO()
-        with contextlib.redirect_stdout(out), contextlib.redirect_stderr(fault):
+        output, errors = io.StringIO(), io.StringIO()
+        with contextlib.redirect_stdout(output), contextlib.redirect_stderr(errors):
             status = commands.main(["--database", self.server.address, "--schema", self.schema, *words])
-        self.assertEqual(status, wanted, (words, out.getvalue(), fault.getvalue()))
-        return out.getvalue() + fault.getvalue()
+        self.assertEqual(status, wanted, (words, output.getvalue(), errors.getvalue()))
+        return output.getvalue() + errors.getvalue()
 
     def start_beat(self, address: str, *before: str) -> subprocess.Popen[bytes]:
         """Starts `spki-store beat`, which is killed after the test. `address` has settings of libpq. `before` is a command that runs it, as words."""
@@ -247,10 +247,10 @@ class Schema(OfStore):
         """The database computes the principal of a row from its text: the SHA-256 digest of a key, or the digest of a hash. It refuses a text that is
         not one list in canonical form that begins with `entry` and a principal."""
         key = b"(10:public-key(4:test1:a))"
-        hinted = b"(5:entry(4:hash6:sha256[1:x]32:" + b"h" * 32 + b")(3:tag(1:*)))"
+        hinted = b"(5:entry(4:hash6:sha256[1:x]32:" + b"h" * 32 + b")(3:tag(1:*)))"  # (its digest has a display hint)
         for text, wanted in {ENTRY: hashlib.sha256(key).digest(), ENTRY_OF_ZEROS: bytes(32), hinted: b"h" * 32,
                              b"(5:entry(4:name" + key + b"1:n)(3:tag(1:*)))": hashlib.sha256(key).digest(),
-                             b"(5:entry(4:hash6:sha51264:" + b"(" * 64 + b")(3:tag(1:*)))": b"(" * 64}.items():
+                             b"(5:entry(4:hash6:sha51264:" + b"(" * 64 + b")(3:tag(1:*)))": b"(" * 64}.items():  # (a digest opens no list)
             number = self.store.add(text)
             self.assertEqual(self.store.rows("SELECT principal FROM {entries} WHERE number = %s", number), [(wanted,)])
             self.assertEqual(texts.principal_of(text), wanted)
@@ -268,7 +268,7 @@ class Schema(OfStore):
         self.assertEqual([(row.number, row.text) for row in self.store.all()], [(number, entry)])
         self.assertEqual(self.store.rows("SELECT remark FROM {ended}"), [(hostile.decode(),)])
         self.assertEqual(self.spki_store(0, "diff", self.file(b"(3:acl" + entry + b")")), "entries that differ: 0\n")
-        self.assertEqual(self.store.found([hostile]), [])
+        self.assertEqual(self.store.entries_for([hostile]), [])
 
     def test_row_that_is_no_entry(self) -> None:
         """`check` finds an entry that the constraints of the database let pass: here one without its tag."""

@@ -175,7 +175,7 @@ class Store:
             cursor.execute(self.statement(text))
             yield from cursor
 
-    def found(self, principals: list[bytes]) -> list[tuple[int, bytes]]:
+    def entries_for(self, principals: list[bytes]) -> list[tuple[int, bytes]]:
         """The number and the text of each entry whose principal is one of these digests, which must differ, in the order of the numbers."""
         digests = [principal for principal in principals if len(principal) in LENGTHS]
         # (no principal has another length, and each length has an index of its own)
