@@ -2,7 +2,7 @@
 hang or are gone, a disk that is full, nginx in front of it, and the files of systemd that come with it. The daemon writes a line to its log of grants
 for each grant, and denials to standard output. `self.headers()` are those that a web server sends for Alice, who may read all files.
 `self.ask_often(SOCKET, TIMES, HEADERS)` returns the statuses of the answers: 200 is a grant, 400 a denial of a malformed path, 503 a fault of the
-daemon, and 500 one that nginx has found. `daemon.run(OPTION)` runs the program once more, with this option."""
+daemon, and 500 one that nginx has found. `daemon.run(OPTION)` runs the program once more, with this option. A wait fails after 600 seconds."""
 import contextlib
 import json
 import os
