@@ -202,7 +202,7 @@ class Answers(OfPage):
         units = text.encode("utf-16-le")[2 * place["begin"]:2 * place["end"]]
         self.assertEqual(units.decode("utf-16-le"), "(taag")
 
-    def test_what_a_refused_request_or_moment_gets(self) -> None:
+    def test_a_refused_request_or_moment_has_a_line_and_a_remark(self) -> None:
         changes: list[tuple[dict[str, Any], str]] = [
             ({"request": []}, "refused request EmptyList"), ({"request": ["*", "a"]}, "refused request StarInRequest"),
             ({"at": "2026-13-01_00:00:00"}, "refused at BadDate")]
@@ -378,7 +378,7 @@ class Hostile(OfPage):
         self.fail(f"the answer has no {word}: {answer}")
 
     def test_a_hostile_question_is_stopped(self) -> None:
-        """It is answered by a notice, and then the page answers the next question."""
+        """A question that takes too long is answered by a notice, and then the next question of its page, here `a`, is answered."""
         answer = self.page.ask("question", **hostile_question(), page="a")
         self.assertRegex(answer["notice"], "took longer than 2 seconds|has no explanation here")
         # (either the answer took too long, and there is none, or its explanation did)
