@@ -72,7 +72,7 @@ class Service:
         # such as another digest: then no entry grants, so any rows may be read)
         with self.no_entries.ask(question) as asked:
             first = next(iter(asked), None)
-        rows = self.store.found(digests_of(first.key if first else spki.canonical(question.key.text)))
+        rows = self.store.entries_for(digests_of(first.key if first else spki.canonical(question.key.text)))
         with guard_of([text for _, text in rows], self.policy, self.limits) as guard:
             decision = guard.decide(question, verify)
         return rows[decision.entry - 1][0] if decision else None

@@ -2,7 +2,7 @@
 hang or are gone, a disk that is full, nginx in front of it, and the files of systemd that come with it. The daemon writes a line to its log of grants
 for each grant, and denials to standard output. `self.headers()` are those that a web server sends for Alice, who may read all files.
 `self.ask_often(SOCKET, TIMES, HEADERS)` returns the statuses of the answers: 200 is a grant, 400 a denial of a malformed path, 503 a fault of the
-daemon, and 500 one that nginx has found. `daemon.run(OPTION)` runs the program once more, with this option."""
+daemon, and 500 one that nginx has found. `daemon.run(OPTION)` runs the program once more, with this option. A wait fails after 600 seconds."""
 import contextlib
 import json
 import os
@@ -147,7 +147,7 @@ class Log(OfDaemon):
 
     def test_a_log_reader_that_hangs_delays_no_answer(self) -> None:
         """Nobody reads the pipe to which the daemon writes its denials; later the pipe has no reader. 3,000 denials of over 500 octets, of paths that
-        begin with `//`, fill it. Each request is answered, each grant has its line in the log of grants, and the lines that are lost are counted."""
+        begin with `//`, fill it. Each request and a reload are answered, each grant has its line in the log of grants, and lost lines are counted."""
         with self.daemon() as daemon:
             # (the daemon is started once more, with both its outputs at a pipe)
             daemon.process.terminate()
@@ -174,7 +174,7 @@ class Log(OfDaemon):
             self.start_again(daemon)
 
     def test_a_log_reader_that_is_gone_ends_nothing(self) -> None:
-        """A pipe at standard error whose reader is gone does not end the daemon."""
+        """A pipe at standard error whose reader is gone does not end the daemon, which writes a line there at a reload."""
         with self.daemon() as daemon:
             assert daemon.process.stderr is not None
             daemon.process.stderr.close()
@@ -225,8 +225,8 @@ class Manager:
         self.messages.settimeout(SECONDS)
 
     def start(self) -> subprocess.Popen[bytes]:
-        """Starts the daemon, and waits until it says that it is ready. It gets the socket as from systemd: as the open file with the number 3, which
-        LISTEN_PID and LISTEN_FDS announce. A small program in Python sets these, and becomes the daemon."""
+        """Starts the daemon, and waits until it says that it is ready. Raises as `message`. It gets the socket as from systemd: as the open file with
+        the number 3, which LISTEN_PID and LISTEN_FDS announce. A small program in Python sets these, and becomes the daemon."""
         code = ("import os, sys\nos.dup2(int(sys.argv[1]), 3)\nos.environ.update(LISTEN_PID=str(os.getpid()), LISTEN_FDS='1')\n"
                 "os.set_inheritable(3, True)\nos.execv(sys.argv[2], sys.argv[2:])")
         words = [sys.executable, "-c", code, str(self.socket.fileno()), self.daemon.program, "-config", self.daemon.config]

@@ -86,7 +86,7 @@ def questions_of_files(program):
 
 
 def questions_of_tables():
-    """Yields the rows of the tables, as pairs of a question (place, number of a command, text, no separate rows) and the wanted status and octets."""
+    """Yields for each command and text of tests/tables/ a question (place, number of the command, text, no separate rows), and the answer wanted."""
     for table in tables_here():
         for place, command, text, status, answer in rows_of(table):
             number = COMMANDS.index(command)
@@ -142,15 +142,15 @@ def questions_by_hand():
 
 def answers_of(words, questions):
     """Runs `clibrary.c` by these words on questions, which are pairs with the wanted answers. Returns its status, what it writes to standard error,
-    and its answers, each a status and octets."""
+    and its answers, each a status and octets: it writes `STATUS LENGTH`, a line feed and the octets."""
     octets = b"".join(b"%d %d %d\n%s%s" % (command, len(text), len(rows), text, rows) for (_, command, text, rows), _ in questions)
     done = subprocess.run(words, input=octets, capture_output=True, timeout=SECONDS)
     answers, at = [], 0
     while at < len(done.stdout):
-        line = done.stdout.index(b"\n", at)
-        status, length = map(int, done.stdout[at:line].split())
-        at = line + 1 + length
-        answers.append((status, done.stdout[line + 1:at]))
+        line_feed = done.stdout.index(b"\n", at)
+        status, length = map(int, done.stdout[at:line_feed].split())
+        at = line_feed + 1 + length
+        answers.append((status, done.stdout[line_feed + 1:at]))
     return done.returncode, done.stderr.decode(errors="replace"), answers
 
 
@@ -291,7 +291,7 @@ class Links(OfC):
 
     def check_linking(self, *words):
         """`linked.c` must be compiled and linked in each way, and end with status 0. `words` are a compiler and its options. In the last way there
-        are two copies of the static library, one with other names for the calls: they must not clash."""
+        are two copies of the static library, one with other names for the calls: they must not clash. (By `-x none` no library is read as C++.)"""
         other, program = os.path.join(self.room, "libother.a"), os.path.join(self.room, "linked")
         source = os.path.join(TESTS, "programs", "linked.c")
         renamed = [f"--redefine-sym={name}=other_{name}" for name in calls_of_header()]
@@ -376,7 +376,7 @@ class Head(OfC):
 
 static bool is_signed(const struct spki_signed *it)
 {
-    return it->value.length == 5;
+    return it->value.length == 5; /* (3:sig) */
 }
 
 int main(void)
@@ -489,8 +489,8 @@ class Fuzzed(OfC):
     """`fuzz/calls.c`: the answers to fuzzed parts, through an spki.c that is checked as well."""
 
     def check_fuzzing(self, *flags):
-        """Fuzzing by libFuzzer, with the options `flags`, must find no fault. A text that leads to one is written to tests/out/. spki.c is compiled
-        here under AddressSanitizer too, and linked with the archive of the proved code alone."""
+        """Fuzzing by libFuzzer, with the options `flags`, must find no fault in texts of 1,500 octets at most. A text that leads to one is written to
+        tests/out/. spki.c is compiled here under AddressSanitizer too, and linked with the archive of the proved code alone."""
         program, folder, to = (os.path.join(*words) for words in ((self.room, "fuzz"), (TESTS, "fuzz"), (TESTS, "out")))
         sources = [os.path.join(folder, "calls.c"), *(os.path.join(CRATE, name) for name in ("spki.c", "heap.c"))]
         proved = os.path.join(os.path.dirname(built.library()), "proved", "libspki_c.a")

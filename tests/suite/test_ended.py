@@ -147,7 +147,7 @@ class Ends(TestOfEnding):
 
     def test_which_certificate_is_ended(self) -> None:
         """What is ended is the last certificate of a file, with `--place` the one at a place, a certificate that is no sequence, or a digest, which
-        gets a remark. `first` has one certificate, `cert` is this one alone, and `second` has a second one. Their comments change nothing."""
+        gets a remark. `first` has one certificate, `cert` is this one alone, and `second` has a second one. Their COMMENTS add no digest."""
         first, second = self.digests
         for words, wanted in ((["second"], [second]), (["first"], [first]), (["cert"], [first]), (["second", "--place", "1"], [first]),
                               (["second", "--place", "2"], [second]), (["first", "second"], [first, second]), (["--digest", B], [B]),

@@ -187,10 +187,10 @@ def most_work():
 # ---- what is done with an example: each returns the number of runs, the number of refusals, and the faults
 
 def refused_in_turn(program, example, behind):
-    """Runs of an example in which the Nth request for memory is refused, for each N up to one more than it makes, or for some of them if these are
-    very many. `behind` is "", or ".." if all later requests are refused too. The requests before the first read are for the words of the command
-    line, and the same on each text, so only the example WORDS_REFUSED has them refused. clap, which makes them, may do without the memory, and the
-    answer is then as ever. Returns the number of runs, of refusals, and the faults."""
+    """Runs of an example in which the Nth request for memory is refused, for each N up to one more than it makes, or for some 100 of them if these
+    are over 1,000. `behind` is "", or ".." if all later requests are refused too. The requests before the first read are for the words of the command
+    line, and the same on each text, so only the example WORDS_REFUSED has them refused. The crate clap, which reads these words, may do without the
+    memory, and the answer is then as ever. Returns the number of runs, of refusals, and the faults."""
     whole = program.run(example.command, example.text)
     answer = example.answer or whole.answer
     asked, refusals, faults = whole.asked["memory"], 0, []
@@ -299,7 +299,7 @@ def in_less_memory(program, example):
 
 def within_limits(program, example):
     """An example of much work, which must take at most MOST_SECONDS and MOST_MEMORY MiB, and end with a status of the program. Its output must begin
-    with that of the example. Prints its row of a table. Returns 1 for one example, 0 refusals, and the faults."""
+    with that of the example. Prints its line of a table. Returns 1 for one example, 0 refusals, and the faults."""
     ended = program.run(example.command, example.text)
     seconds, mebibytes = memory.used(program.path, example.command, example.text)
     print(f"{example.name:<40}{example.command:<10}{len(example.text):>9}{len(ended.out):>9}{seconds:>8.2f} s{mebibytes:>8.1f} MiB", flush=True)
@@ -390,17 +390,17 @@ def long_answers():
 
 
 def pipes_and_files():
-    """Tasks with pipes without a reader, pipes that do not block, files that are full, and texts that come octet by octet. If `dies` is true a run
-    begins with the usual effect of SIGPIPE, the signal of a pipe without a reader, which would end it: it must report a write fault even so."""
+    """Tasks with pipes whose reader leaves after 0 or 5 octets, pipes that do not block, full files, and texts that come octet by octet. If `dies` is
+    true a run begins with the usual effect of SIGPIPE, the signal of a pipe without a reader, which would end it: it must report a write fault."""
     long = b"(" + b"3:abc" * 200000 + b")"  # (longer than PIPE, the octets that a pipe holds)
     whole = first_run()[0]
-    for dies in (False, True):  # (the reader leaves after 0 octets, and then after 5)
+    for dies in (False, True):
         for command in COMMANDS:
             yield one_run, f"{command} with no reader", WRITE_FAULT, "reader_gone", command, whole, 0, dies
         yield one_run, "a reader that leaves", (3, long[:5], WRITE_FAULT[2]), "reader_gone", "canonical", long, 5, dies
     for text in (*first_run(), *three_certificates()):
         yield one_run, "one octet at a time", outcome_of("0 yes entry 1"), "in_packets", "check", text
-    for most in range(12):
+    for most in range(12):  # (octets, fewer than the answer has)
         wanted = 3, b"yes entry 1\n"[:most], WRITE_FAULT[2]
         yield one_run, f"a file of at most {most} octets", wanted, "limited", "check", whole, resource.RLIMIT_FSIZE, most
     yield one_run, "a reader that cannot wait", READ_FAULT, "without_waiting", "check", b""

@@ -55,7 +55,7 @@ class TestWithKeys(CommandTest):
         self.sign("--propagate", "-o", "to-bob")
 
     def sign(self, *words, by="alice", to="bob.pub", tag="(packages read)", wanted=0, days=("--days", "30")):
-        """Runs `spki-cert sign`, with more options in `words`. It must end with the status `wanted`. Returns what it writes."""
+        """Runs `spki-cert sign`, with options of validity in `days` and others in `words`. Its status must be `wanted`. Returns what it writes."""
         return self.cert("sign", "--by", by, "--to", to, "--tag", tag, *days, *words, wanted=wanted)
 
     def changes_nothing(self, *words, message="", wanted=2):
@@ -461,7 +461,7 @@ class OfTheRightOfAChain(OfChains):
                 self.assertEqual("item 1 of the chain ends earlier" in output, warns, output)
 
     def test_certificates_of_a_key_for_itself_are_no_burden(self):
-        """Many such certificates do not keep the search from the right chain. If the search stops at a bound of steps or chains, a line says so."""
+        """Many certificates of bob for bob do not keep the search from the right chain. If it stops at a bound of steps or chains, a line says so."""
         os.mkdir(self.at("many"))
         for number, sequence in enumerate(self.sequences(12)):
             self.write(f"many/{number}", sexp.laid_out(sequence))
@@ -471,7 +471,7 @@ class OfTheRightOfAChain(OfChains):
         # (`left`, the first field of the dataclass, has `most` as its default, by which `__init__` was made: both are replaced)
         with mock.patch.object(certificates.Steps, "most", 1), mock.patch.object(certificates.Steps.__init__, "__defaults__", (1, False)):
             self.assertIn("the search for chains ended after 1 steps", self.cert(*asks, "packages", "read", wanted=1))
-        self.write("many/other", sexp.laid_out(self.sequence("bob", "carol", 99)))
+        self.write("many/other", sexp.laid_out(self.sequence("bob", "carol", 99)))  # (which makes a second chain)
         for most, is_cut in ((1, True), (2, False)):
             with mock.patch.object(asking, "MOST_CHAINS", most):
                 output = self.cert(*asks, "mail", wanted=1)
@@ -511,7 +511,7 @@ class Child:
                 os._exit(99)
 
     def wait(self):
-        """Waits until the command has ended. Returns its status, or minus the number of the signal that ended it, and its standard error as text."""
+        """Waits until the command has ended: SIGALRM ends one that hangs. Returns its status, or minus a signal's number, and its standard error."""
         status = os.waitstatus_to_exitcode(os.waitpid(self.process, 0)[1])
         self.errors.seek(0)
         with self.errors:
@@ -596,7 +596,7 @@ class OfSignals(TestWithKeys):
                     self.assertNotIn("Traceback", errors)
                     self.assertIn(status, (3,) if is_ending else (0, 2, 3, -number), errors)
                     self.assertEqual("ended by" in errors, is_ending, errors)
-                self.assertLessEqual({file for file in os.listdir(self.room) if file not in before}, {"folder", "new", "new.pub"})
+                self.assertLessEqual(set(os.listdir(self.room)) - set(before), {"folder", "new", "new.pub"})  # (`before` has no folders)
                 for new in ("new", "new.pub"):
                     pathlib.Path(self.at(new)).unlink(missing_ok=True)
         self.assertEqual(before, self.contents())

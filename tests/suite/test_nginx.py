@@ -2,7 +2,7 @@
 slow or pass limits, and the daemon is killed, hangs and is started again. test_attacks.py has the attacks. examples/nginx/run.sh, which shows the
 example, is run too, and its lines are compared. By the list of the site Ann may read and write below /web/. Ben may read there by a certificate of
 Ann, and Eve nothing. `self.site.status(WHO, METHOD, PATH)` is the status of the answer to a request of WHO: 2xx is a grant, 401 and 403 are denials,
-and 5xx says that nothing has decided."""
+and 5xx says that nothing has decided. `waits_for(WHAT, IS_SO)` fails the test if that is not so after 600 seconds."""
 import contextlib
 import json
 import os
@@ -192,7 +192,7 @@ class Numbers(unittest.TestCase):
         return int(number)
 
     def test_idle_connections(self) -> None:
-        """The idle connections of 40 workers leave a quarter of the 1,024 places of a daemon to others."""
+        """The idle connections of 40 workers of nginx, as files.conf counts, leave a quarter of the 1,024 connections of a daemon to others."""
         self.assertLessEqual(40 * self.number(r"keepalive (\d+);"), 1024 * 3 // 4)
 
     def test_rates(self) -> None:
@@ -228,7 +228,7 @@ class Changes(OfSite):
         self.assertEqual(set(answers), {("ann", 200), ("ben", 200), ("ben", 401), ("eve", 401)})
 
     def test_slow_clients(self) -> None:
-        """Clients that never end their header, or their body, do not delay others."""
+        """While 40 clients never end their header, or their body, Ann still gets her answers, and no part of a body becomes a file."""
         halves = [b"GET /web/index.html HTTP/1.1\r\nHost: loc", b"PUT /web/slow HTTP/1.1\r\nHost: localhost\r\nContent-Length: 9\r\n\r\nab"] * 20
         with contextlib.ExitStack() as connections:
             for half in halves:

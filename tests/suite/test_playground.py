@@ -60,7 +60,7 @@ class Page:
         words = [sys.executable, FOLDER, "--no-browser", "--engine", engine, "--seconds", str(seconds)]
         settings = {"SPKI_PROGRAM": built.program(), **({"SPKI_LIBRARY": built.shared()} if engine == "library" else {})}
         self.process: Any = subprocess.Popen(words, stdout=subprocess.PIPE, text=True, env={**os.environ, **settings})
-        self.address = urlsplit(self.process.stdout.readline().strip())
+        self.address = urlsplit(self.process.stdout.readline().strip())  # (the first line that it prints)
         self.origin = f"http://{self.address.netloc}"
 
     def end(self):
@@ -202,7 +202,7 @@ class Answers(OfPage):
         units = text.encode("utf-16-le")[2 * place["begin"]:2 * place["end"]]
         self.assertEqual(units.decode("utf-16-le"), "(taag")
 
-    def test_what_a_refused_request_or_moment_gets(self) -> None:
+    def test_a_refused_request_or_moment_has_a_line_and_a_remark(self) -> None:
         changes: list[tuple[dict[str, Any], str]] = [
             ({"request": []}, "refused request EmptyList"), ({"request": ["*", "a"]}, "refused request StarInRequest"),
             ({"at": "2026-13-01_00:00:00"}, "refused at BadDate")]
@@ -336,7 +336,7 @@ class Answers(OfPage):
 
     def test_counts_of_the_picture(self) -> None:
         """The picture says how many entries the list has, and how many certificates of a long chain are left out: it has at most 61 steps, 5 of them
-        without certificates. A certificate for another key than before is two steps, and one for the same key is one, as in the last chain."""
+        without certificates, and 6 if one says what is left out. A certificate is two steps, or one if it is for the same key as the one before."""
         key = STORY["key"]
         self.assertEqual([self.page.ask("question", **{**STORY, "acl": acl})["chain"]["steps"][0]["whole"] for acl in (
             f"(acl (entry {key} (tag x)))", f"(acl (entry {key} (tag x)) (entry {key} (tag x)))")], ["1 entry", "2 entries"])
@@ -378,7 +378,7 @@ class Hostile(OfPage):
         self.fail(f"the answer has no {word}: {answer}")
 
     def test_a_hostile_question_is_stopped(self) -> None:
-        """It is answered by a notice, and then the page answers the next question."""
+        """A question that takes too long is answered by a notice, and then the next question of its page, here `a`, is answered."""
         answer = self.page.ask("question", **hostile_question(), page="a")
         self.assertRegex(answer["notice"], "took longer than 2 seconds|has no explanation here")
         # (either the answer took too long, and there is none, or its explanation did)
@@ -395,7 +395,7 @@ class Hostile(OfPage):
 
 @needs.needs(*needs.LIBRARY)
 class HostileToLibrary(Hostile):
-    """The same where the library decides. A guard intersects no tags, so the decision comes, though without an explanation."""
+    """As `Hostile`, where the library decides. A guard intersects no tags, so the decision comes, though without an explanation."""
 
     engine = "library"
 
@@ -472,7 +472,7 @@ class Faults(unittest.TestCase):
     """What the server does if an answer fails, or a connection. It runs in this process, and its workers do what `ask` is given."""
 
     def setUp(self) -> None:
-        """Starts the server at a free port. A mock stands for the workers, which answer questions."""
+        """Starts the server at a free port. A mock stands for the workers, which answer questions. `start`, what the page loads first, is empty."""
         module = loaded(os.path.join(FOLDER, "server.py"))
         self.server = module.Server(port=0, workers=mock.Mock(), jobs={"question": None}, start=b"{}")
         self.addCleanup(self.server.server_close)
@@ -520,7 +520,7 @@ class InChromium(OfPage):
     @classmethod
     def setUpClass(cls) -> None:
         super().setUpClass()
-        sys.path.append(needs.DEBIAN)
+        sys.path.append(needs.DEBIAN)  # (selenium is a module of Debian)
         from selenium import webdriver
         from selenium.webdriver.chrome.service import Service
         options = webdriver.ChromeOptions()

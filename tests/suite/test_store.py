@@ -3,7 +3,7 @@ questions are asked, 20,000 in a long run. Only a long run asks daemons at repli
 tables: `entries`, the `ended` certificates, `changes` (the log), `imports`, a `heartbeat`, and `chains`, the certificates that clients leave.
 `Store.rows(STATEMENT, VALUE ..)` runs a statement in which `{entries}` is that table, and returns its rows. `self.spki_store(STATUS, WORD ..)` runs
 the command, which must end with this status: 0 is done, 1 something wrong or missing, 2 a refusal, 3 a fault of the database or a file. A daemon
-answers a request with 200 to grant it, 401 or 403 to deny it, and 503 if the state of its store is stale."""
+answers a request with 200 to grant it, 401 or 403 to deny it, and 503 if the state of its store is stale. A wait fails the test after 600 seconds."""
 import argparse
 import contextlib
 import hashlib
@@ -79,11 +79,11 @@ class OfStore(built.OfLibrary):
 
     def spki_store(self, wanted: int, *words: str) -> str:
         """Runs `spki-store` in this process. It must end with the status `wanted`. Returns what it writes on both streams."""
-        out, fault = io.StringIO(), io.StringIO()
-        with contextlib.redirect_stdout(out), contextlib.redirect_stderr(fault):
+        output, errors = io.StringIO(), io.StringIO()
+        with contextlib.redirect_stdout(output), contextlib.redirect_stderr(errors):
             status = commands.main(["--database", self.server.address, "--schema", self.schema, *words])
-        self.assertEqual(status, wanted, (words, out.getvalue(), fault.getvalue()))
-        return out.getvalue() + fault.getvalue()
+        self.assertEqual(status, wanted, (words, output.getvalue(), errors.getvalue()))
+        return output.getvalue() + errors.getvalue()
 
     def start_beat(self, address: str, *before: str) -> subprocess.Popen[bytes]:
         """Starts `spki-store beat`, which is killed after the test. `address` has settings of libpq. `before` is a command that runs it, as words."""
@@ -93,7 +93,7 @@ class OfStore(built.OfLibrary):
         return process
 
     def wait_for_beat(self) -> None:
-        """Waits for the first beat: the state that `init` made may be stale before it, and something may fail before the program has begun."""
+        """Waits for the first beat: before it the state that `init` made may be stale, and a test may stop the server before `beat` has begun."""
         waits_for("the first beat", lambda: bool(self.store.rows("SELECT 1 FROM {heartbeat} WHERE number > 0")))
 
 
@@ -102,7 +102,7 @@ class Command(OfStore):
 
     def test_commands_one_after_another(self) -> None:
         """Entries are imported, added, removed, compared, checked, listed in the log and exported."""
-        path = self.file(b"(acl (entry (public-key (test a)) (tag (*)))" + ENTRY_OF_ZEROS.replace(b"(5:", b" (5:", 1) + b")", "list.sexp")
+        path = self.file(b"(acl (entry (public-key (test a)) (tag (*))) " + ENTRY_OF_ZEROS + b")", "list.sexp")
         self.assertEqual(self.spki_store(0, "import", path), "entries added: 2\n")
         self.assertIn("imported before", self.spki_store(2, "import", path))
         self.assertEqual(self.spki_store(0, "diff", path), "entries that differ: 0\n")
@@ -174,7 +174,7 @@ class Command(OfStore):
         self.assertIn("wrong 0", self.spki_store(0, "check"))
 
     def test_two_imports_at_once(self) -> None:
-        """An import adds nothing if another import of the same list ends meanwhile: here just before the first one adds its entries."""
+        """An import is refused if another import of the same list ends meanwhile: here that runs where the first one would add its entries."""
         path = self.file(b"(3:acl" + ENTRY + b")")
         with mock.patch.object(self.store, "add_many", lambda _: self.spki_store(0, "import", path)), self.assertRaises(texts.Wrong):
             transfer.import_list(self.store, path, is_shown=False)
@@ -247,10 +247,10 @@ class Schema(OfStore):
         """The database computes the principal of a row from its text: the SHA-256 digest of a key, or the digest of a hash. It refuses a text that is
         not one list in canonical form that begins with `entry` and a principal."""
         key = b"(10:public-key(4:test1:a))"
-        hinted = b"(5:entry(4:hash6:sha256[1:x]32:" + b"h" * 32 + b")(3:tag(1:*)))"
+        hinted = b"(5:entry(4:hash6:sha256[1:x]32:" + b"h" * 32 + b")(3:tag(1:*)))"  # (its digest has a display hint)
         for text, wanted in {ENTRY: hashlib.sha256(key).digest(), ENTRY_OF_ZEROS: bytes(32), hinted: b"h" * 32,
                              b"(5:entry(4:name" + key + b"1:n)(3:tag(1:*)))": hashlib.sha256(key).digest(),
-                             b"(5:entry(4:hash6:sha51264:" + b"(" * 64 + b")(3:tag(1:*)))": b"(" * 64}.items():
+                             b"(5:entry(4:hash6:sha51264:" + b"(" * 64 + b")(3:tag(1:*)))": b"(" * 64}.items():  # (a digest opens no list)
             number = self.store.add(text)
             self.assertEqual(self.store.rows("SELECT principal FROM {entries} WHERE number = %s", number), [(wanted,)])
             self.assertEqual(texts.principal_of(text), wanted)
@@ -268,7 +268,7 @@ class Schema(OfStore):
         self.assertEqual([(row.number, row.text) for row in self.store.all()], [(number, entry)])
         self.assertEqual(self.store.rows("SELECT remark FROM {ended}"), [(hostile.decode(),)])
         self.assertEqual(self.spki_store(0, "diff", self.file(b"(3:acl" + entry + b")")), "entries that differ: 0\n")
-        self.assertEqual(self.store.found([hostile]), [])
+        self.assertEqual(self.store.entries_for([hostile]), [])
 
     def test_row_that_is_no_entry(self) -> None:
         """`check` finds an entry that the constraints of the database let pass: here one without its tag."""

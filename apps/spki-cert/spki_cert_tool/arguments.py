@@ -34,7 +34,8 @@ class Once(argparse._StoreAction):
     """The action of an option with one value, which may be given once. To argparse alone, the last of several values would count."""
 
     def __call__(self, parser: argparse.ArgumentParser, namespace: argparse.Namespace, values: Any, option: str | None = None) -> None:
-        """Stores the value. Raises Refused, by `parser.error`, for an option that was given before, also if that was its default value."""
+        """Stores the value. `option` is None for a word that is none. Raises Refused, by `parser.error`, for an option that was given before, also if
+        that was its default value."""
         options_given = vars(namespace).setdefault("options_given", set())
         if option and self.dest in options_given:
             parser.error(f"{option} is given twice")

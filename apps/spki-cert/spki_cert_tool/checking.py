@@ -13,7 +13,7 @@ from .places import ALONE, BY_HEAD, Lines, places_of, read_text, refusal
 from .sexp import canonical
 from .showing import FAULTS, what_is
 from .structures import read_tag
-from .tag_words import MOST_PRODUCTS, contains, is_everything, remarks
+from .tag_words import MOST_PRODUCTS, gives_all_of, is_everything, remarks
 
 # The suffixes of the files in a folder that are always looked at.
 S_EXPRESSIONS, OTHER_KEYS = (".sexp", ".csexp", ".tsexp"), (".pub", ".pem", ".key")
@@ -65,7 +65,7 @@ def remarks_on(path: str, moment: bytes, is_given: bool = True) -> tuple[str | N
     try:
         octets = octets_of(path)
     except Refused as why:
-        return "no file that can be read", [Remark(path, 1, 1, True, why.lines[0].removeprefix(f"{path}: "))]
+        return "no file that can be read", [Remark(path, 1, 1, is_refused=True, text=why.lines[0].removeprefix(f"{path}: "))]
     suffix, begins_as_list = os.path.splitext(path)[1], octets.lstrip()[:1] in (b"(", b"{")
     if not (is_given or suffix in S_EXPRESSIONS + OTHER_KEYS or is_key_file(octets) or not suffix and begins_as_list):
         return None, []
@@ -87,11 +87,11 @@ def remarks_on_key_file(path: str, octets: bytes) -> tuple[str, list[Remark]]:
                 kind = "a private key, encrypted"
             else:
                 text = str(why) if isinstance(why, BadKey) else why.why
-                on_keys.append(Remark(path, *lines.line_and_column(begin), True, text))
-    on_keys += [Remark(path, 1, 1, False, why.removeprefix(f"{path} is ")) for why in remark_on_mode(path)]
+                on_keys.append(Remark(path, *lines.line_and_column(begin), is_refused=True, text=text))
+    on_keys += [Remark(path, 1, 1, is_refused=False, text=why.removeprefix(f"{path} is ")) for why in remark_on_mode(path)]
     if len(pieces) > MOST_KEYS:
         place = lines.line_and_column(pieces[MOST_KEYS][0])
-        on_keys.append(Remark(path, *place, False, f"only the first {MOST_KEYS} of these keys are looked at: split the file"))
+        on_keys.append(Remark(path, *place, is_refused=False, text=f"only the first {MOST_KEYS} of these keys are looked at: split the file"))
     return f"{len(pieces)} public keys" if len(pieces) > 1 else kind, on_keys
 
 
@@ -130,6 +130,7 @@ def probable_mistakes(node: Node, moment: bytes) -> Iterator[tuple[int, str]]:
     kind = BY_HEAD.get(node.head or b"")
     if kind in ("acl", "sequence", "case") or node.head in (b"cert", b"entry"):
         yield from mistakes_in_parts(node, moment)
+    # (the first part of a case, behind its head, is the list)
     if kind in ("acl", "case"):
         yield from needless_entries(node if kind == "acl" else node.rest[0])
     if kind in ("sequence", "case"):
@@ -193,7 +194,7 @@ def needless_entries(node: Node) -> Iterator[tuple[int, str]]:
         if work_left < 0:
             return
         # (of two that give the same only the later one is needless)
-        if index not in needless and contains(wide, narrow, keys) and (wide_index < index or not contains(narrow, wide, keys)):
+        if index not in needless and gives_all_of(wide, narrow, keys) and (wide_index < index or not gives_all_of(narrow, wide, keys)):
             needless.add(index)
             yield narrow_node.begin, f"entry {wide_index + 1} gives all of entry {index + 1}: remove entry {index + 1}"
 

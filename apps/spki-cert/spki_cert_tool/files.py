@@ -90,6 +90,7 @@ def write_output(text: str | bytes) -> None:
 
 def tell(*lines: str) -> None:
     """Writes lines to standard error, if that is possible."""
+    # (it is closed or full, or no stream of the system, and nobody can be told)
     with contextlib.suppress(OSError, ValueError, AttributeError):
         write_at_once(sys.stderr, "".join(f"{line}\n" for line in lines))
 
@@ -244,6 +245,7 @@ def octets_of_key(path: str) -> Iterator[bytes]:
 def remark_on_mode(path: str) -> Iterator[str]:
     """Yields a remark if a file has a private key and others have some access to it, else nothing. Standard input, `-`, has no mode. Raises Refused
     if others have access and the file cannot be read."""
+    # (what is not there has no mode)
     with contextlib.suppress(OSError):
         state = os.stat(path)
         mode = stat.S_IMODE(state.st_mode)
@@ -440,6 +442,7 @@ def wait_for_disk(place: str) -> None:
         if why.errno != errno.EINVAL:
             raise not_on_disk(place, why) from None
     finally:
+        # (nothing was written by this handle that a fault could lose)
         with contextlib.suppress(OSError):
             os.close(handle)
 

@@ -12,7 +12,7 @@ from .files import Refused, Signer, now
 from .keys import hash_of, principal_of, verifies
 from .places import lines_of_fault, place_shown, read_form, read_text, value_in
 from .sexp import Value, canonical, laid_out, on_one_line
-from .tag_words import MOST_PRODUCTS, contains, is_everything, lacks, remarks
+from .tag_words import MOST_PRODUCTS, gives_all_of, is_everything, lacks, remarks
 
 
 def certificate_of(key: Value, subject: Value, fields: list[Value], name: bytes | None = None) -> Value:
@@ -114,7 +114,7 @@ def warnings_of_list(new_entry: Value, before: bytes) -> Iterator[str]:
     keys = Keys(terms.principal for terms in (*entries, new))
     for number, terms in enumerate(entries, 1):
         work_left -= len(canonical(terms.tag or b"")) * len(canonical(new.tag or b""))
-        if work_left > 0 and contains(terms, new, keys):
+        if work_left > 0 and gives_all_of(terms, new, keys):
             yield f"entry {number} of the list gives all of this already"
 
 

@@ -260,7 +260,7 @@ def read_text(text: bytes, to_explain: str = "") -> tuple[Diagnosis, Node]:
     node, inner, places = Node(0, members=[]), text, None
     try:
         inner, places, closing = without_braces(text)
-        node = Parser(inner, places is not None).whole()
+        node = Parser(inner, is_canonical=places is not None).whole()
         if closing < len(text):
             places, inner = None, text
             raise Wrong("Trailing", closing, "the braces end before this octet; a text is one value")

@@ -22,7 +22,7 @@ def request(given: argparse.Namespace) -> int:
     status, with --curl that of curl. Raises Refused or BadKey."""
     from spki_http import Signer
     method = given.method or ("PUT" if given.body is not None else "GET")
-    body = octets_of(given.body, -1) if given.body is not None else None
+    body = octets_of(given.body, most=-1) if given.body is not None else None
     if not METHOD.fullmatch(method):
         raise Refused(f"{method}: a method is in capital letters, as PUT")
     if not ADDRESS.fullmatch(given.address):
@@ -46,9 +46,9 @@ def request(given: argparse.Namespace) -> int:
 
 
 def send_by_curl(method: str, address: str, lines: bytes, body: bytes | None, words: list[str]) -> int:
-    """Has curl send a request as it is, and returns its exit status. `lines` are the fields, each as a line NAME: VALUE, `body` is None for a request
-    without one, and `words` are more options of curl. The fields and the body are files without a name, so that no list of processes shows them.
-    Raises Refused if there is no curl."""
+    """Has curl send a request as it is. Returns its exit status, or BY_SIGNAL plus the number of the signal that ended it. `lines` are the fields,
+    each as a line NAME: VALUE, `body` is None for a request without one, and `words` are more options of curl. The fields and the body are files
+    without a name, so that no list of processes shows them. Raises Refused if there is no curl."""
     files = [memory_file(octets) for octets in [lines, *([body] if body is not None else [])]]
     # (without --path-as-is and --globoff curl would change the address, which is signed. With `--request HEAD` it would wait for a body)
     command = ["curl", "--path-as-is", "--globoff", *(["--head"] if method == "HEAD" else ["--request", method]), "--header", f"@/dev/fd/{files[0]}",

@@ -14,7 +14,7 @@ PRINTED = re.compile(rb"[ -~]*\Z")
 def read(octets: bytes) -> Value:
     """The value of a canonical text. Raises Wrong if it is none."""
     from .forms import Parser
-    return Parser(octets, True).whole().value
+    return Parser(octets, is_canonical=True).whole().value
 
 
 def canonical(value: Value) -> bytes:

@@ -95,7 +95,7 @@ def covers(wide: Value, narrow: Value) -> bool:
     return isinstance(narrow, bytes) and holds(wide, narrow)
 
 
-def contains(wide: Terms, narrow: Terms, keys: Keys) -> bool:
+def gives_all_of(wide: Terms, narrow: Terms, keys: Keys) -> bool:
     """Whether the entry `wide` gives all that the entry `narrow` gives: to the same subject, for at least as long, and with delegation if `narrow`
     has it. As `covers`, it may be False although it does. `keys` are those that hashes may name."""
     is_one_subject = wide.names == narrow.names and keys.are_one(wide.principal, narrow.principal)
@@ -131,7 +131,7 @@ def remarks(node: Node, is_outermost: bool = True) -> Iterator[Place]:
         text = on_one_line(node.value)
         yield node.begin, f"`{text}` contains only lists that begin so; what contains each of these words is `(* set {text[1:]}`"
     for member in rest:
-        yield from remarks(member, False)
+        yield from remarks(member, is_outermost=False)
 
 
 def remarks_on_string(node: Node) -> Iterator[Place]:

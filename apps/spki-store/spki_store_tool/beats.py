@@ -32,14 +32,14 @@ class Beats:
             self.store.beat()
         except psycopg.Error:
             self.store.close()
-            # (its server becomes the last in order)
+            # (`at` has the settings of the server where the beat failed, which becomes the last in order)
             self.hosts.remove(self.store.at)
             self.hosts.append(self.store.at)
             raise
 
     def connect(self) -> None:
         """Connects to all servers, waits until all have answered, but at most AGAIN seconds, and uses the connection to the first in order that has
-        taken one. Closes the others, also those that come later. Raises OperationalError if none has taken one yet: then the next call waits on."""
+        accepted one. Closes the others, also those made later. Raises OperationalError if none has accepted one yet: then the next call waits on."""
         for host in self.hosts:
             if host not in self.opening:
                 self.opening[host] = self.pool.submit(connect_to, host)

@@ -95,11 +95,11 @@ class Store:
         return [make_conninfo(**{**settings, **address}) for address in given]
 
     def connect(self) -> None:
-        """Connects to the first of the hosts that takes it, whose settings are then in `at`. A host that is cut off is given up after seconds, by
-        PATIENCE: otherwise it would take minutes until the next one is asked. Raises the fault of the last host if none takes it."""
+        """Connects to the first of the hosts that accepts a connection, whose settings are then in `at`. A host that is cut off is given up after
+        seconds, by PATIENCE: otherwise it would take minutes until the next one is asked. Raises the fault of the last host if none accepts one."""
         *others, last = self.each_host()
         for host in others:
-            # (a host that does not take it is passed over)
+            # (a host that accepts none is passed over)
             with contextlib.suppress(psycopg.OperationalError):
                 self.at, self.connection = host, connect_to(host)
                 return
@@ -175,7 +175,7 @@ class Store:
             cursor.execute(self.statement(text))
             yield from cursor
 
-    def found(self, principals: list[bytes]) -> list[tuple[int, bytes]]:
+    def entries_for(self, principals: list[bytes]) -> list[tuple[int, bytes]]:
         """The number and the text of each entry whose principal is one of these digests, which must differ, in the order of the numbers."""
         digests = [principal for principal in principals if len(principal) in LENGTHS]
         # (no principal has another length, and each length has an index of its own)
