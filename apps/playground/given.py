@@ -57,11 +57,11 @@ class SentQuestion:
         return value(question.acl), value(question.sequence), value(question.key), request, self.box["at"]
 
     def check(self):
-        """The line of the decision: `yes entry N` or `no`."""
+        """The line of the decision: `yes entry N` or `no`. Raises `Refused` as `lines` does."""
         return self.engine.lines(self.question, "check")[0]
 
     def lines(self, command):
-        """The lines that the command `check`, `explain` or `reduce` answers to this question."""
+        """The lines that the command `check`, `explain` or `reduce` answers to this question. Raises `Refused` if it is refused."""
         return self.engine.lines(self.question, command)
 
     def reduce_items(self, items):
@@ -143,11 +143,11 @@ class SentCase:
         return case[1], case[3], case[4][1], case[5][1], case[6][1]
 
     def check(self):
-        """The line of the decision: `yes entry N` or `no`."""
+        """The line of the decision: `yes entry N` or `no`. Raises `Refused` as `lines` does."""
         return self.lines("check")[0]
 
     def lines(self, command):
-        """The lines that the command `check`, `explain` or `reduce` answers to the case."""
+        """The lines that the command `check`, `explain` or `reduce` answers to the case. Raises `Refused` if it is refused."""
         return self.engine.command(command, self.octets).decode().split("\n")
 
     def reduce_items(self, items):

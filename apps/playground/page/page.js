@@ -169,7 +169,8 @@ function restore() {
   choose(given?.panel ?? chosen);
 }
 
-/** Fetches `start.json`, fills the page by it, and asks the first question: that of the address, else of the first example. */
+/** Fetches `start.json`, fills the page by it, and asks the first question: that of the address, else of the first example. `others` are texts for the
+  * boxes of the other panels. Rejects if `start.json` cannot be fetched. */
 async function start() {
   const { examples, engine, others, mostOctets } = await (await fetch("start.json")).json();
   limitOctets(mostOctets);
@@ -178,6 +179,7 @@ async function start() {
   loadOthers(others);
   byId("example").value = "0";
   load(examples[0].question);
+  // (it puts the address's question in place of the example's, if there is one, and asks)
   restore();
 }
 

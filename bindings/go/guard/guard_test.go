@@ -263,8 +263,9 @@ func TestVerifiedIsOfItsSequence(t *testing.T) {
 	}
 }
 
-// TestMarksAreOfOneQuestion asks for two clients at once. What is marked for b grants nothing to c, who shows a forged certificate, and nothing to b
-// in another question. At the end two questions are swapped by value: the marks go with the question, and do not stay with its address.
+// TestMarksAreOfOneQuestion opens three questions: by b; by c, who shows a forged certificate; and by b once more, which is not verified. What is
+// marked for b's first one grants nothing by the two others. At the end two are swapped by value: the marks go with the question, and do not stay with
+// its address.
 func TestMarksAreOfOneQuestion(t *testing.T) {
 	opened, question := openGuard(t, list), questionWith(0)
 	question.Sequence, question.Key = []byte("(sequence "+forgedForC+")"), spki.AssumeKey([]byte("(public-key (test c))"))

@@ -408,8 +408,9 @@ fn a_time_of_the_system_is_a_moment() {
     }
 }
 
-/// A right that has ended is not granted by the moments of a clock that failed. The year 9999 ends with the second 253,402,300,799. Of the seconds
-/// below 0, one is the least number of 32 bits, and one begins the year 0.
+/// A moment before 1970 or past the year 9999, as some clocks give that failed, is refused, and revives no right that has ended. Second 0 is a moment
+/// like others. The year 9999 ends with the second 253,402,300,799. Of the seconds below 0, one is the least number of 32 bits, and one begins the
+/// year 0.
 #[test]
 fn a_moment_before_1970_or_past_9999_is_refused() {
     let ended =

@@ -34,7 +34,8 @@ struct Sets {
 }
 
 impl Nonces {
-    /// Room for `most` nonces in each of the two sets. If the young set is full, a nonce is refused.
+    /// Room for `most` nonces in each of the two sets. The young set has the nonces of the time for which one is kept, at most, and if it is full, a
+    /// further one is refused. So `most` bounds how many signed requests are accepted in that time.
     #[must_use]
     pub fn new(most: usize) -> Nonces {
         Nonces {
