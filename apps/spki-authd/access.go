@@ -62,7 +62,8 @@ func readAccess(c *config, now time.Time) (*access, error) {
 	return present, nil
 }
 
-// readEnded reads the digests of ended certificates. With an empty path, which is that of a configuration without such a file, none has ended.
+// readEnded reads the digests of ended certificates. With an empty path, which is that of a configuration without such a file, none has ended. It fails if
+// the file cannot be read or is refused: then the access is not used.
 func (a *access) readEnded(path string) error {
 	if path == "" {
 		return nil

@@ -23,8 +23,9 @@ func (c *config) openList(entries []byte) (*guard.Guard, error) {
 }
 
 // signaturesOf returns the signatures of a sequence of certificates, at least one, whatever access list is in force. `sequence` is in transport form. It
-// verifies none. It fails with errUnkept if there is none, or if a certificate would not count even if all signatures were valid: so it marks them all as
-// valid, and asks the library for a reason. It also fails with the library's refusal of the sequence. `key` and `now` only complete the question.
+// verifies none. It fails with errEmpty, an errUnkept, if there is no signature, and with errUnkept if a certificate would not count even if all signatures
+// were valid: to find that, it marks them all as valid, and asks the library for a reason. It also fails with the library's refusal of the sequence. `key`
+// and `now` only complete the question.
 func (c *config) signaturesOf(sequence string, key guard.ProvenKey, now time.Time) ([]guard.Signature, error) {
 	empty, err := c.openList(nil)
 	if err != nil {

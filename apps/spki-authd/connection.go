@@ -213,7 +213,7 @@ func (s *connectionServer) endLate(now time.Time) {
 	}
 }
 
-// endLate ends a connection if its time is over: by a deadline that has passed, its reads and writes fail. Before the first setStage it has no time.
+// endLate ends a connection if its time is over: by a deadline that has passed, its reads and writes fail. Before the first setStage no time is set for it.
 func (c *connectionState) endLate(now time.Time) {
 	c.mutex.Lock()
 	defer c.mutex.Unlock()

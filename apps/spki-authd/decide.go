@@ -66,7 +66,7 @@ func (d *decider) decide(inquiry *inquiry, now time.Time) record {
 	}
 	client, proof, err := d.clientOf(inquiry)
 	if err != nil && errors.Is(err, errNoCertificate) {
-		return result.withReason(answerUnknown, err)
+		return result.withReason(answerUnauthenticated, err)
 	}
 	if err != nil {
 		return result.withReason(answerRefused, err)
@@ -123,7 +123,7 @@ func (d *decider) judge(result *record, key guard.ProvenKey, path, sequence stri
 	case decision.Granted():
 		result.Answer, result.Entry = answerYes, result.entryNumber(decision.Entry())
 	case sequence == "":
-		result.Answer = answerUnknown
+		result.Answer = answerUnauthenticated
 	}
 }
 

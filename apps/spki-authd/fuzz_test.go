@@ -83,8 +83,8 @@ func FuzzLeft(f *testing.F) {
 	f.Fuzz(func(t *testing.T, octets []byte) {
 		defer s.log.Reset()
 		s.chains = &folderChains{chains: *s.config.Chains, byKey: map[string][]keptChain{}}
-		status, reply := s.leaves(t, s.bob, string(octets))
-		isKept := s.keeps(t, s.bob)
+		status, reply := s.leaveAs(t, s.bob, string(octets))
+		isKept := s.keepsFor(t, s.bob)
 		if status != 201 && status != 400 || (status == 201) != isKept || (reply == answerKept) != isKept {
 			t.Errorf("%d: %+v", status, s.lastLine(t))
 		}

@@ -67,15 +67,15 @@ func (p person) putRequest(t testing.TB, target, sequence string) *http.Request 
 	return request
 }
 
-// leaves sends the site a request by which a person leaves certificates, and returns the status and the answer.
-func (s *site) leaves(t testing.TB, who person, sequence string) (int, answer) {
+// leaveAs sends the site a request by which a person leaves certificates, and returns the status and the answer.
+func (s *site) leaveAs(t testing.TB, who person, sequence string) (int, answer) {
 	t.Helper()
 	response := s.respond(who.putRequest(t, usualPath, sequence))
 	return response.StatusCode, answer(response.Header.Get("X-Spki-Answer"))
 }
 
-// keeps says whether any sequence that a client has left is kept for a person's key.
-func (s *site) keeps(t testing.TB, who person) bool {
+// keepsFor says whether any sequence that a client has left is kept for a person's key.
+func (s *site) keepsFor(t testing.TB, who person) bool {
 	t.Helper()
 	chains, err := s.chains.currentOf(hexDigest([]byte(who.key)), s.now())
 	if err != nil {
@@ -122,7 +122,7 @@ func TestKeptChains(t *testing.T) {
 	} {
 		status, reply := 0, answer("")
 		if row.target == put {
-			status, reply = s.leaves(t, row.who, row.sequence)
+			status, reply = s.leaveAs(t, row.who, row.sequence)
 		} else {
 			status = s.statusFor(row.who, row.target, row.sequence)
 		}
@@ -210,8 +210,8 @@ func TestWhichChainsAreKept(t *testing.T) {
 	} {
 		// (a new folder, so that no row leaves a sequence for the next one)
 		s.chains = newFolderChains(t, chains{Each: 2, Keys: 2})
-		status, reply := s.leaves(t, s.bob, sequence(row.shown...))
-		line, isKept := s.lastLine(t), s.keeps(t, s.bob)
+		status, reply := s.leaveAs(t, s.bob, sequence(row.shown...))
+		line, isKept := s.lastLine(t), s.keepsFor(t, s.bob)
 		if row.reason == "" && (status != 201 || reply != answerKept || !isKept) {
 			t.Errorf("%s: %d, %+v", row.name, status, line)
 		}
@@ -227,8 +227,8 @@ func TestEndedIsNotKept(t *testing.T) {
 	bobs, _ := s.sequencesShown()
 	s.config.Ended = writeFile(t, "ended", withLastLine(digestOfText(s.toBob)+" # stolen\n"))
 	s.mustReload(t)
-	status, reply := s.leaves(t, s.bob, bobs)
-	if status != 400 || reply != answerRefused || !strings.HasSuffix(s.lastLine(t).Reason, "has ended") || s.keeps(t, s.bob) {
+	status, reply := s.leaveAs(t, s.bob, bobs)
+	if status != 400 || reply != answerRefused || !strings.HasSuffix(s.lastLine(t).Reason, "has ended") || s.keepsFor(t, s.bob) {
 		t.Errorf("%d, %+v", status, s.lastLine(t))
 	}
 }
@@ -243,7 +243,7 @@ func TestStrangersLeave(t *testing.T) {
 	for place, wanted := range []answer{answerKept, answerKept, answerFull, answerFull} {
 		stranger := newPerson(t)
 		shown := sequence(s.mallory.sign(s.mallory.certificate(stranger, prefix("read", "/web/"), "")))
-		if _, reply := s.leaves(t, stranger, shown); reply != wanted {
+		if _, reply := s.leaveAs(t, stranger, shown); reply != wanted {
 			t.Errorf("%d: %s, wanted %s", place, reply, wanted)
 		}
 		if s.statusFor(stranger, "/web/x", "") != 401 || s.statusFor(stranger, "/web/x", shown) != 403 {
@@ -454,7 +454,7 @@ func TestNoncesOfLeaving(t *testing.T) {
 	s.reopenChains(t)
 	for place, wanted := range []answer{answerKept, answerRefused} {
 		stranger := newPerson(t)
-		if _, reply := s.leaves(t, stranger, sequence(s.mallory.sign(s.mallory.certificate(stranger, prefix("read", "/"), "")))); reply != wanted {
+		if _, reply := s.leaveAs(t, stranger, sequence(s.mallory.sign(s.mallory.certificate(stranger, prefix("read", "/"), "")))); reply != wanted {
 			t.Errorf("%d: %s, %+v", place, reply, s.lastLine(t))
 		}
 	}
@@ -519,7 +519,7 @@ func TestPutAttacks(t *testing.T) {
 	for name, change := range s.putAttacks(bobs, other) {
 		request := s.bob.putRequest(t, usualPath, bobs)
 		change(request)
-		if response := s.respond(request); response.StatusCode < 400 || s.keeps(t, s.bob) {
+		if response := s.respond(request); response.StatusCode < 400 || s.keepsFor(t, s.bob) {
 			t.Errorf("%s: %d, %+v", name, response.StatusCode, s.lastLine(t))
 		}
 	}
@@ -536,7 +536,7 @@ func TestPutRefusals(t *testing.T) {
 		t.Error("too long: ", response.StatusCode, s.lastLine(t))
 	}
 	// (a query that looks like a request that Bob may do)
-	if response := s.respond(s.bob.putRequest(t, target+"?GET=/web/docs/b", bobs)); response.StatusCode != 400 || s.keeps(t, s.bob) {
+	if response := s.respond(s.bob.putRequest(t, target+"?GET=/web/docs/b", bobs)); response.StatusCode != 400 || s.keepsFor(t, s.bob) {
 		t.Error("a query: ", response.StatusCode, s.lastLine(t))
 	}
 	request := s.bob.putRequest(t, target, bobs)
@@ -562,7 +562,7 @@ func TestKeptChainsEnd(t *testing.T) {
 	short := sequence(s.alice.sign(s.alice.certificateUntil(s.bob, prefix("read", "/web/docs/"), end)))
 	long := sequence(s.alice.sign(s.alice.certificate(s.bob, prefix("read", "/web/docs/"), "")))
 	for _, text := range []string{short, long} {
-		if _, reply := s.leaves(t, s.bob, text); reply != answerKept {
+		if _, reply := s.leaveAs(t, s.bob, text); reply != answerKept {
 			t.Error(reply)
 		}
 	}
@@ -629,10 +629,10 @@ func TestKeptNowhere(t *testing.T) {
 	if err := os.WriteFile(s.config.Chains.Folder, nil, 0o600); err != nil {
 		t.Fatal(err)
 	}
-	if status, reply := s.leaves(t, s.bob, bobs); status != 503 || reply != answerFailed || !strings.Contains(s.lastLine(t).Reason, "not a directory") {
+	if status, reply := s.leaveAs(t, s.bob, bobs); status != 503 || reply != answerFailed || !strings.Contains(s.lastLine(t).Reason, "not a directory") {
 		t.Error(status, reply, s.lastLine(t))
 	}
-	if s.keeps(t, s.bob) {
+	if s.keepsFor(t, s.bob) {
 		t.Error("what has no file is kept")
 	}
 }

@@ -43,15 +43,15 @@ type file interface {
 // The mode of a new ledger, from which the daemon's umask takes rights away: its owner may write and its group may read.
 const modeOfLedger = 0o640
 
-// openLedger opens the ledger at a path, or makes it. `syncs` is syncNever, syncSeconds or syncEach. It fails if it cannot, if that is no ordinary file, if
-// another daemon writes it, or if fsync fails for its folder.
+// openLedger opens the ledger at a path, or makes it. `syncs` is syncNever, syncSeconds or syncEach. It fails as ledger.open does: then the ledger that it
+// returns is not used.
 func openLedger(path, syncs string) (*ledger, error) {
 	opened := &ledger{path: path, syncs: syncs}
 	return opened, opened.open()
 }
 
-// open opens or makes the file. It fails if it cannot, if that is no ordinary file, if another daemon writes it, or if fsync fails for its folder,
-// and then changes nothing in `l`. If the last line of the file is cut, isCut has the next one begin behind a line feed.
+// open opens or makes the file. It fails if the file cannot be opened or made, is no ordinary file, or is written by another daemon, or if fsync fails for
+// its folder. Then it changes nothing in `l`. If the last line of the file is cut, isCut has the next one begin behind a line feed.
 func (l *ledger) open() error {
 	if err := checkLedgerPath(l.path); err != nil {
 		return err
@@ -103,8 +103,8 @@ func checkOpenable(path string) error {
 	return nil
 }
 
-// lockLedger locks a file for this daemon alone, until it is closed, and returns whether its last line is cut, and how many octets it has. It fails if it
-// is no ordinary file, and if another daemon has locked it.
+// lockLedger locks a file for this daemon alone, until it is closed, and returns whether its last line is cut, and how many octets it has. It fails if the
+// file is no ordinary one, if another daemon has locked it, or if it cannot be read.
 func lockLedger(opened *os.File) (isCut bool, size int64, err error) {
 	about, err := opened.Stat()
 	if err == nil && !about.Mode().IsRegular() {

@@ -31,7 +31,8 @@ var (
 )
 
 // isPut says whether a request is read as one that leaves certificates, by leavingOf, and not as an inquiry, by inquiryOf. A web server that names the
-// client's method in a header asks by GET: from it each PUT is. Envoy asks by the client's method: from it only a PUT to the path of certificates is.
+// client's method in a header asks by GET, so no PUT of it is an inquiry. Envoy asks by the client's method, so only a PUT to the path of certificates is
+// not one.
 func (c *config) isPut(request *http.Request) bool {
 	return request.Method == http.MethodPut && (c.Headers.Method != "" || c.isForChains(request))
 }
@@ -83,8 +84,8 @@ func bodyOf(request *http.Request) ([]byte, error) {
 	return body, nil
 }
 
-// sequenceInBody returns the value of a body in transport form, whatever form the body has. It fails with errChain if the body is no S-expression, is a
-// sequence of nothing, or is over mostShownOctets in transport form. Whether it is a sequence is tested later.
+// sequenceInBody returns the S-expression of a body in transport form, whatever form the body has. It fails with errChain if the body is no S-expression,
+// is a sequence without certificates, or is over mostShownOctets in transport form. Whether it is a sequence is tested later.
 func sequenceInBody(body []byte) (string, error) {
 	canonical, err := guard.Canonical(body)
 	sequence := "{" + base64.StdEncoding.EncodeToString(canonical) + "}"

@@ -184,7 +184,7 @@ func (d *daemon) statusLine() string {
 }
 
 // logEvent writes an event: what the daemon did, such as `reloaded`, or, if `fault` is not nil, what it did not do because of that. The event has the
-// digests of the lists and ended certificates that are in force now.
+// digests of the lists and of the ended certificates that are in force. That of a list in a store is as of the last reload.
 func (d *daemon) logEvent(action string, fault error) {
 	present := d.keeper.present.Load()
 	message := event{

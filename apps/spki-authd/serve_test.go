@@ -51,7 +51,7 @@ func serveHere(t *testing.T, fields string) *servedSite {
 	here.client = &http.Client{Transport: &http.Transport{MaxIdleConnsPerHost: 16, DialContext: func(ctx context.Context, _, _ string) (net.Conn, error) {
 		return (&net.Dialer{}).DialContext(ctx, "unix", here.socket)
 	}}}
-	waitFor(t, here.config.controlPath())
+	waitForSocket(t, here.config.controlPath())
 	t.Cleanup(func() {
 		here.client.CloseIdleConnections()
 		signals.end <- syscall.SIGTERM
@@ -93,8 +93,8 @@ func TestEndsWithoutDisk(t *testing.T) {
 	}
 }
 
-// waitFor waits until somebody listens at a socket, and ends the test if that takes longer than ten seconds.
-func waitFor(t *testing.T, path string) {
+// waitForSocket waits until somebody listens at a socket, and ends the test if that takes longer than ten seconds.
+func waitForSocket(t *testing.T, path string) {
 	t.Helper()
 	for turn := 0; turn < 1000; turn++ {
 		if connection, err := net.Dial("unix", path); err == nil {

@@ -157,6 +157,7 @@ func (s *scope) read(policy guard.Policy, c *config) (*list, error) {
 	}
 	options := s.Source.store
 	if options.opened == nil {
+		// (a store is waited for as long as the line of a grant)
 		reader, err := openReader(options, c.Limits.timeOfRequest()/partOfGrant)
 		if err != nil {
 			return nil, err

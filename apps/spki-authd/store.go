@@ -126,8 +126,7 @@ func newStore(options *storeOf, reader reader, open func(list []byte) (*guard.Gu
 }
 
 // list returns a list of the entries that a question can need: one that is kept, or a new one. The caller closes its guard if it isPassing. It fails
-// if the store is stale, also by the time that reading has taken, or cannot be read, and with the library's refusal if the question's sequence is
-// refused.
+// with the library's refusal of the question's sequence, if the store is stale, before the entries are read or after it, or if it cannot be read.
 func (s *store) list(question *guard.Question) (*list, error) {
 	key, err := s.keyOf(question)
 	if err != nil {

@@ -46,11 +46,11 @@ func (k *keptRows) get(name digest) *list {
 
 // add keeps the list of a key, unless it alone is too large, and says whether it does. `name` is the key's digest by SHA-256, `digests` are all its digests
 // from digestsOf, and `octets` is the size of its entries' texts. Lists that were not asked for in a long time are removed to make room.
-func (k *keptRows) add(name digest, digests [][]byte, rows *list, octets int) bool {
+func (k *keptRows) add(name digest, digests [][]byte, list *list, octets int) bool {
 	if before, isKept := k.byName[name]; isKept {
 		k.remove(before)
 	}
-	row := &keptRow{name, digests, rows, octetsRow + octetsEach*octets}
+	row := &keptRow{name, digests, list, octetsRow + octetsEach*octets}
 	if row.size > k.most {
 		return false
 	}

@@ -59,7 +59,7 @@ func (s *store) noteResult(result pollResult, begun time.Time, follows bool) {
 	for _, each := range result.changed {
 		s.kept.drop(each)
 	}
-	// (Round(0) drops the monotonic clock: the lag is by the time of day)
+	// (`at` is when a poll first read the present beat. Round(0) drops the monotonic clock: the lag is by the time of day)
 	if s.polled.at.IsZero() || result.beat != s.polled.beat || result.beaten != s.polled.beaten {
 		s.polled.at, s.polled.lag = begun, begun.Round(0).Sub(time.UnixMicro(result.beaten))
 	}

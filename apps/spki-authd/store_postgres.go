@@ -215,7 +215,7 @@ func stateIn(row []driver.Value) (storeState, error) {
 	return storeState{changes: numbers[1], beat: numbers[2], beaten: numbers[3]}, nil
 }
 
-// octetsIn returns a copy of the octets that a column has, or nil for a column of another type.
+// octetsIn returns a copy of the octets that a column has, or none for a column of another type.
 func octetsIn(value driver.Value) []byte {
 	octets, _ := value.([]byte)
 	return append([]byte(nil), octets...)
@@ -297,7 +297,7 @@ func (p *pool) allEnded() (result pollResult, err error) {
 	return result, requireState(hasState, err)
 }
 
-// chains returns the sequences that are kept for the key with a digest, by their ends.
+// chains returns the sequences that are kept for the key with a digest, in the order of their ends.
 func (p *pool) chains(key digest) (chains []keptChain, err error) {
 	err = p.ask(askChains, func(row []driver.Value) error {
 		// (a value that is no number is read as 0, which is 1970: such a sequence has ended)

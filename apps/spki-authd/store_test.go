@@ -330,7 +330,7 @@ func (s *storedSite) expectKept(t *testing.T, name string, wanted int, kept stri
 func (s *storedSite) expectLeft(t *testing.T, name string, wanted answer) {
 	t.Helper()
 	bobs, _ := s.sequencesShown()
-	if _, reply := s.leaves(t, s.bob, bobs); reply != wanted {
+	if _, reply := s.leaveAs(t, s.bob, bobs); reply != wanted {
 		t.Errorf("%s: %q", name, reply)
 	}
 }

@@ -80,7 +80,7 @@ func TestTLS(t *testing.T) {
 	ended := make(chan int)
 	var out, messages journal
 	go func() { ended <- run([]string{"-config", path}, out.writer(), messages.writer()) }()
-	waitFor(t, config.controlPath())
+	waitForSocket(t, config.controlPath())
 	if status, err := askByTLS(config, alice); status != 200 || err != nil {
 		t.Errorf("%d, %v, %s", status, err, messages.String())
 	}
