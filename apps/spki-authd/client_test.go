@@ -21,8 +21,8 @@ func TestCertificateForms(t *testing.T) {
 		"nginx": {escapedPEM, alice.escaped()}, "nginx, less is escaped": {escapedPEM, strings.ReplaceAll(alice.pem(), "\n", "%0A")},
 		"caddy": {base64DER, encoded}, "traefik": {base64DER, encoded + "," + base64.StdEncoding.EncodeToString(bob.der)},
 		"envoy":             {xfcc, `By=spiffe://x;Hash=ab;Cert="` + alice.escaped() + `";Subject="CN=\"a;b\",Cert=x"`},
-		"envoy, last":       {xfcc, `Hash=ab;Cert="` + alice.escaped() + `"`},
-		"envoy, semicolons": {xfcc, `cert="` + alice.escaped() + `";`},
+		"envoy, Cert last":  {xfcc, `Hash=ab;Cert="` + alice.escaped() + `"`},
+		"envoy, `;` at end": {xfcc, `cert="` + alice.escaped() + `";`},
 	} {
 		if key, err := keyOf(row.text, forms[row.form]); err != nil || string(key) != alice.key {
 			t.Errorf("%s: %q, %v", name, key, err)

@@ -367,6 +367,7 @@ func TestEndedGiveWay(t *testing.T) {
 		{217, "c", "c1", answerFull, "a1 a2 b1"},
 		{217, "a", "a2", answerKnown, "a1 a2 b1"},
 		{217, "a", "a3", answerKept, "a2 a3 b1"},
+		// (b1 has ended after 240 hours, and a2 after 336)
 		{241, "c", "c1", answerKept, "a2 a3 c1"},
 		{337, "a", "a2", answerKept, "a2 a3 c1"},
 		{337, "a", "a4", answerFull, "a2 a3 c1"},
@@ -729,7 +730,7 @@ func TestDiskThatHangs(t *testing.T) {
 		answer, _ := kept.add("a", chain, time.Now())
 		added <- answer
 	}()
-	// (until `add` holds this lock: it then waits for a reader of the FIFO)
+	// (until `add` holds this lock, for which it need not wait: it then waits for a reader of the FIFO)
 	for kept.writing.TryLock() {
 		kept.writing.Unlock()
 		time.Sleep(time.Millisecond)

@@ -90,7 +90,7 @@ func TestProbe(t *testing.T) {
 		"denied, none was stopped":  {never, 200, statusRefused, "-stopped", "nothing is shown"},
 		"the daemon is stopped":     {always, 500, statusDone, "-stopped", "nothing was granted"},
 		"no gateway":                {always, 502, statusDone, "-stopped", "nothing was granted"},
-		"stopped without the words": {always, 500, statusRefused, "", "does the daemon run?"},
+		"stopped, without -stopped": {always, 500, statusRefused, "", "does the daemon run?"},
 		"a page of errors":          {always, 200, statusRefused, "-stopped", "granted: GET /files/spki-probe-"},
 		"no such file":              {always, 404, statusRefused, "", "granted: GET /files/spki-probe-"},
 		"no such file, stopped":     {always, 404, statusRefused, "-stopped", "granted: GET"},

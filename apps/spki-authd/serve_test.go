@@ -106,7 +106,7 @@ func waitForSocket(t *testing.T, path string) {
 	t.Fatal("nobody listens at ", path)
 }
 
-// get asks the daemon over its socket whether Alice may read a target, and returns the status, or 0 after an error.
+// get asks the daemon over its socket whether Alice may read a target, and returns the status. If there is no answer, it reports an error and returns 0.
 func (s *servedSite) get(t *testing.T, target string) int {
 	request, err := http.NewRequest(http.MethodGet, "http://daemon/", nil)
 	if err != nil {
@@ -282,6 +282,7 @@ func TestWaitingConnections(t *testing.T) {
 	case octets := <-answered:
 		t.Errorf("answered beside a busy one: %q", octets)
 	case <-time.After(200 * time.Millisecond):
+		// (the daemon waits: an answer takes a few milliseconds)
 	}
 	if s.lines() != 2 {
 		t.Errorf("%d lines", s.lines())

@@ -121,8 +121,8 @@ func copyOf(row []driver.Value) []driver.Value {
 // The statement that adds a beat, by the clock of a server. The table `error` says by how much that is wrong, as the test sets it.
 const beats = "UPDATE @.heartbeat SET number = number + 1, moment = clock_timestamp() + (SELECT by FROM @.error)"
 
-// change adds an entry or removes one, with a beat, and notes the version. Below 40 entries it adds one, and otherwise it does either at random. If
-// that fails, it is not certain whether it was done: then settle finds out.
+// change adds an entry or removes one, with a beat, and notes the version. Below 40 entries it adds one, so that questions find some, and otherwise it does
+// either at random. If that fails, it is not certain whether it was done: then settle finds out.
 func (l *timeline) change() {
 	last := l.past[len(l.past)-1].entries
 	next, begun := make(map[int]string, len(last)+1), time.Now()
@@ -147,8 +147,8 @@ func (l *timeline) change() {
 	}
 }
 
-// settle waits until a server can be written to, and notes the version in force there, when no other transaction is under way. `begun` is when the
-// change was begun that is not certain.
+// settle waits until a server can be written to, and notes the version in force there, when no other transaction is under way. If the test ends before
+// that, it notes none. `begun` is when the change was begun that is not certain.
 func (l *timeline) settle(begun time.Time) {
 	for {
 		rows, err := l.transact([]string{"SELECT changes FROM @.state FOR UPDATE", beats, "SELECT number, text FROM @.entries"})
@@ -217,7 +217,7 @@ func (l *timeline) changeUntilEnd() {
 // TestQuestionsUnderFailures asks a store while its entries change and tests/suite/test_store_failures.py has something fail. Each answer must be a
 // failure, or that of the guard of the whole list as of a moment at most `failingStale` seconds before the question. It ends when as many questions are
 // answered as the environment says, and the file of envEnd is there. `counts` counts failures, and other answers by their first two letters: yes, no,
-// refused. At least a twentieth of `wanted` must be yes, as many no, and one a failure.
+// refused. At least a twentieth of `wanted` must be yes, as many no, and one a failure. The test ends as failed if only failures come for five minutes.
 func TestQuestionsUnderFailures(t *testing.T) {
 	l := newTimeline(t)
 	random := rand.New(rand.NewSource(l.random.Int63()))

@@ -79,6 +79,7 @@ func newFigures(t *testing.T, keys int) *figures {
 
 // key returns the key with a number, in canonical form, for which bench/store.py has put an entry into the store.
 func key(number int) []byte {
+	// (`k` and 39 digits are 40 octets)
 	return []byte(fmt.Sprintf("(10:public-key(4:test40:k%039d))", number))
 }
 
@@ -145,6 +146,7 @@ func (f *figures) measureSingle() {
 	}
 	f.measure("miss", 10_000, notKept)
 	const sameKey = 7
+	// (so that its list is kept)
 	f.timeOf(sameKey)
 	f.measure("hit", 20_000, func() int { return sameKey })
 }

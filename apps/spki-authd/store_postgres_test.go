@@ -148,8 +148,8 @@ func (r *rig) entry() string {
 	return "(5:entry" + subject + more + "(3:tag" + prefix("read", folder) + "))"
 }
 
-// change adds an entry or removes one, as another client does, and notes the list after it. Below 40 entries it adds one, and otherwise it does
-// either at random.
+// change adds an entry or removes one, as another client does, and notes the list after it. Below 40 entries it adds one, so that questions find some, and
+// otherwise it does either at random.
 func (r *rig) change() {
 	next := map[int]string{}
 	for number, text := range r.entries {
