@@ -12,7 +12,7 @@ type exposition struct {
 	strings.Builder
 }
 
-// writeFamily writes the two lines that precede the values of one metric. `name` lacks `spki_authd_`, here and below. `kind` is counter, gauge or histogram,
+// writeFamily writes the two lines that precede the values of one metric. `name` lacks `spki_authd_`, as in each function that gets one. `kind` is counter, gauge or histogram,
 // and `help` is on one line, without a backslash.
 func (e *exposition) writeFamily(name, kind, help string) {
 	fmt.Fprintf(e, "# HELP spki_authd_%s %s\n# TYPE spki_authd_%s %s\n", name, help, name, kind)

@@ -89,8 +89,8 @@ func (s *site) keepsFor(t testing.TB, who person) bool {
 func TestKeptChains(t *testing.T) {
 	s := newSiteWithChains(t)
 	bobs, carols := s.sequencesShown()
-	other := sequence(s.alice.sign(s.alice.certificate(s.bob, prefix("read", "/web/other/"), "")))
-	third := sequence(s.alice.sign(s.alice.certificate(s.bob, prefix("read", "/web/third/"), "")))
+	other := sequence(s.alice.sign(s.alice.certificate(s.bob, prefixTag("read", "/web/other/"), "")))
+	third := sequence(s.alice.sign(s.alice.certificate(s.bob, prefixTag("read", "/web/third/"), "")))
 	const put = "PUT"
 	for _, row := range []struct {
 		name, target, sequence string
@@ -163,7 +163,7 @@ func (p person) signedNameCertificate(name, subject string) string {
 // request: Bob's. A chain without a reason in its row is kept, and any other one is refused with that reason.
 func TestWhichChainsAreKept(t *testing.T) {
 	s := newSiteWithChains(t)
-	tag := prefix("read", "/web/")
+	tag := prefixTag("read", "/web/")
 	name := "(4:name" + s.alice.key + "8:builders)"
 	toBob, toName := s.alice.sign(s.toBob), s.alice.signedCertificate(name, tag, "")
 	definition := s.alice.signedNameCertificate("builders", s.bob.key)
@@ -242,7 +242,7 @@ func TestStrangersLeave(t *testing.T) {
 	verified := s.counts.verified.Load()
 	for place, wanted := range []answer{answerKept, answerKept, answerFull, answerFull} {
 		stranger := newPerson(t)
-		shown := sequence(s.mallory.sign(s.mallory.certificate(stranger, prefix("read", "/web/"), "")))
+		shown := sequence(s.mallory.sign(s.mallory.certificate(stranger, prefixTag("read", "/web/"), "")))
 		if _, reply := s.leaveAs(t, stranger, shown); reply != wanted {
 			t.Errorf("%d: %s, wanted %s", place, reply, wanted)
 		}
@@ -455,7 +455,7 @@ func TestNoncesOfLeaving(t *testing.T) {
 	s.reopenChains(t)
 	for place, wanted := range []answer{answerKept, answerRefused} {
 		stranger := newPerson(t)
-		if _, reply := s.leaveAs(t, stranger, sequence(s.mallory.sign(s.mallory.certificate(stranger, prefix("read", "/"), "")))); reply != wanted {
+		if _, reply := s.leaveAs(t, stranger, sequence(s.mallory.sign(s.mallory.certificate(stranger, prefixTag("read", "/"), "")))); reply != wanted {
 			t.Errorf("%d: %s, %+v", place, reply, s.lastLine(t))
 		}
 	}
@@ -516,7 +516,7 @@ func (s *site) putAttacks(bobs, other string) map[string]func(*http.Request) {
 func TestPutAttacks(t *testing.T) {
 	s := newSiteWithChains(t)
 	bobs, _ := s.sequencesShown()
-	other := sequence(s.alice.sign(s.alice.certificate(s.bob, prefix("read", "/web/docs/"), "")))
+	other := sequence(s.alice.sign(s.alice.certificate(s.bob, prefixTag("read", "/web/docs/"), "")))
 	for name, change := range s.putAttacks(bobs, other) {
 		request := s.bob.putRequest(t, usualPath, bobs)
 		change(request)
@@ -560,8 +560,8 @@ func TestKeptChainsEnd(t *testing.T) {
 	s := newSiteWithChains(t)
 	begun := time.Now()
 	end := begun.AddDate(0, 0, 10).UTC().Format("2006-01-02_15:04:05")
-	short := sequence(s.alice.sign(s.alice.certificateUntil(s.bob, prefix("read", "/web/docs/"), end)))
-	long := sequence(s.alice.sign(s.alice.certificate(s.bob, prefix("read", "/web/docs/"), "")))
+	short := sequence(s.alice.sign(s.alice.certificateUntil(s.bob, prefixTag("read", "/web/docs/"), end)))
+	long := sequence(s.alice.sign(s.alice.certificate(s.bob, prefixTag("read", "/web/docs/"), "")))
 	for _, text := range []string{short, long} {
 		if _, reply := s.leaveAs(t, s.bob, text); reply != answerKept {
 			t.Error(reply)
@@ -595,7 +595,7 @@ func TestEndedFiles(t *testing.T) {
 	s := newSiteWithChains(t)
 	begun, kept := time.Now(), s.chains.(*folderChains)
 	bobsKey, carolsKey := hexDigest([]byte(s.bob.key)), hexDigest([]byte(s.carol.key))
-	long := sequence(s.alice.sign(s.alice.certificate(s.bob, prefix("read", "/web/docs/"), "")))
+	long := sequence(s.alice.sign(s.alice.certificate(s.bob, prefixTag("read", "/web/docs/"), "")))
 	mustAdd(t, kept, bobsKey, long, begun, answerKept)
 	kept.Keys = 1
 	for place, key := range []string{bobsKey, carolsKey} {

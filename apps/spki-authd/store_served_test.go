@@ -99,7 +99,7 @@ func (l *load) populate() {
 	entries := pq.ByteaArray{}
 	for number := 0; number < hotPeople+coldPeople; number++ {
 		who := newPerson(l.T)
-		entries = append(entries, []byte("(5:entry"+who.key+propagates+"(3:tag"+prefix("read", "/web/")+"))"))
+		entries = append(entries, []byte("(5:entry"+who.key+propagates+"(3:tag"+prefixTag("read", "/web/")+"))"))
 		l.requests = append(l.requests, "GET /auth HTTP/1.1\r\nHost: d\r\nX-Original-Method: GET\r\nX-Original-URI: /web/x\r\nX-Client-Cert: "+who.escaped()+"\r\n\r\n")
 	}
 	added, err := entries.Value()
