@@ -97,7 +97,8 @@ func readConfig(path string) (*config, error) {
 	return config, err
 }
 
-// parseConfig reads the text of a configuration: one object, of known fields, each once. It sets the fields that were left out, and checks all.
+// parseConfig reads the text of a configuration: one object, of known fields, each once. It sets the fields that were left out, and checks all. The error
+// says what is wrong: then the configuration is not used.
 func parseConfig(octets []byte) (*config, error) {
 	if err := checkFields(octets); err != nil {
 		return nil, err

@@ -1,6 +1,6 @@
 package main
 
-// What the daemon counts for its metrics.
+// What the daemon counts for its metrics. A record is one answer, and a rule says which request it is about: its number is its place in the configuration.
 
 import (
 	"sync/atomic"

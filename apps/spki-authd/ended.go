@@ -55,7 +55,8 @@ func lastLineOf(text []byte) (body []byte, last string, isWhole bool) {
 	return text[:begin], string(text[begin : len(text)-1]), true
 }
 
-// add adds the digest of a line, which has no line feed. An empty line and a comment add nothing. It fails for any other line without a digest.
+// add adds the digest of a line, which has no line feed. An empty line and a comment add nothing. It fails for any other line that is not a digest, alone
+// or with ` # ` and a comment behind it.
 func (e *endedCertificates) add(line string) error {
 	if line == "" || line[0] == '#' {
 		return nil

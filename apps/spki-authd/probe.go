@@ -1,6 +1,7 @@
 package main
 
-// The command -probe, which asks a finished site for what it must deny. probe_asker.go has the requests, and how they are sent.
+// The command -probe, which asks a finished site for what it must deny. probe_asker.go has the requests, each a try, and the askers, of which each sends
+// them by one protocol.
 
 import (
 	"errors"

@@ -127,8 +127,8 @@ func (p *pool) renew() {
 	p.renewals.Add(1)
 }
 
-// take takes a connection from a slot, or opens a new one. The caller puts it into p.slots again, or nil after closing it. It fails if no slot is free in
-// time, or if it cannot connect; then the slot is free again.
+// take takes a connection from a slot, or opens a new one. The caller puts it into p.slots again, or nil after closing it. It fails if no slot is free
+// within p.patience, or if it cannot connect. Then the caller puts nothing back.
 func (p *pool) take() (*link, error) {
 	timer := time.NewTimer(p.patience)
 	defer timer.Stop()
