@@ -121,7 +121,8 @@ func lockLedger(opened *os.File) (isCut bool, size int64, err error) {
 	return last[0] != '\n', about.Size(), err
 }
 
-// syncFolder calls fsync for a folder, so that a new file in it is not lost if the machine stops.
+// syncFolder calls fsync for a folder, so that a new file in it is not lost if the machine stops. It fails if the folder cannot be opened, or if fsync
+// fails.
 func syncFolder(path string) error {
 	folder, err := os.Open(path)
 	if err != nil {

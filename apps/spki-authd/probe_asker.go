@@ -89,7 +89,7 @@ type probeAnswer struct {
 }
 
 // askersOf returns the askers of a site: one without a key and one with a key that nobody knows, by each protocol of its address. Without TLS there
-// is only one without a key.
+// is only one without a key. It fails only if no random octets can be read.
 func askersOf(base *url.URL) ([]asker, error) {
 	if base.Scheme == "http" {
 		return []asker{newAsker("HTTP/1.1 without TLS", 1, nil)}, nil
@@ -121,7 +121,8 @@ func newAsker(name string, protocol int, certificate *tls.Certificate) asker {
 	return asker{name, protocol, certificate != nil, client}
 }
 
-// newStrangeCertificate makes a key that no server knows, and returns a certificate for TLS that this key has signed.
+// newStrangeCertificate makes a key that no server knows, and returns a certificate for TLS that this key has signed. It fails only if no random octets
+// can be read.
 func newStrangeCertificate() (*tls.Certificate, error) {
 	private, err := ecdsa.GenerateKey(elliptic.P256(), rand.Reader)
 	if err != nil {

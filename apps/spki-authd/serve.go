@@ -166,7 +166,7 @@ func (d *daemon) reload(allowFewerEnded bool) error {
 	return err
 }
 
-// reopen opens the log of grants again, as after it was renamed, and says how that went by an event.
+// reopen opens the log of grants again, as after it was renamed, and says how that went by an event. It fails as ledger.reopen does, or with errHangs.
 func (d *daemon) reopen() error {
 	err := d.withLedger(d.ledger.reopen)
 	d.logEvent("reopened", err)

@@ -108,12 +108,12 @@ type dialer struct {
 	patience time.Duration
 }
 
-// Dial connects within the dialer's patience.
+// Dial connects, and fails if that takes longer than the dialer's patience.
 func (d dialer) Dial(network, address string) (net.Conn, error) {
 	return d.DialTimeout(network, address, d.patience)
 }
 
-// DialTimeout connects within the dialer's patience, whatever time the driver gives.
+// DialTimeout connects, and fails if that takes longer than the dialer's patience, whatever time the driver gives.
 func (d dialer) DialTimeout(network, address string, _ time.Duration) (net.Conn, error) {
 	connection, err := net.DialTimeout(network, address, d.patience)
 	if err != nil {
@@ -154,7 +154,8 @@ func (p *pool) take() (*link, error) {
 }
 
 // ask runs the statement with a number such as askRows and these values of its parameters, and calls a function with each of its rows. The row's values are
-// valid during that call alone. After an error, also one of the function, the connection is closed.
+// valid during that call alone. It fails as take does. It also fails, and closes the connection, if the function fails, or if the server refuses the
+// statement or does not answer within p.patience.
 func (p *pool) ask(number int, use func(row []driver.Value) error, values ...driver.Value) error {
 	link, err := p.take()
 	if err != nil {
@@ -222,7 +223,7 @@ func octetsIn(value driver.Value) []byte {
 }
 
 // rows returns the entries for a key, by its digests by SHA-1, SHA-256 and SHA-512, in this order. Behind the state a row has the number and the text of an
-// entry, or NULL for both if there is none.
+// entry, or NULL for both if there is none. It fails as pool.ask does, or with errVersion.
 func (p *pool) rows(digests [][]byte) (rows entryRows, err error) {
 	hasState := false
 	err = p.ask(askRows, func(row []driver.Value) (err error) {
@@ -247,7 +248,7 @@ func requireState(hasState bool, err error) error {
 
 // changesSince returns the changes after the one with a number, and the time of that one. Behind the state a row has the number, the time, the kind
 // and the digest of a change. The statement also reads the change with that number, and one more than a poll takes, which shows whether there are
-// more.
+// more. It fails as pool.ask does, or with errVersion.
 func (p *pool) changesSince(number int64) (result pollResult, err error) {
 	hasState, count := false, 0
 	err = p.ask(askChangesSince, func(row []driver.Value) (err error) {
@@ -282,7 +283,7 @@ func (r *pollResult) note(kind driver.Value, octets []byte) {
 }
 
 // allEnded returns all ended certificates. Behind the state a row has the time of the last change and the digest of one certificate, or NULL if there
-// is none.
+// is none. It fails as pool.ask does, or with errVersion.
 func (p *pool) allEnded() (result pollResult, err error) {
 	hasState := false
 	err = p.ask(askAllEnded, func(row []driver.Value) (err error) {
@@ -297,7 +298,7 @@ func (p *pool) allEnded() (result pollResult, err error) {
 	return result, requireState(hasState, err)
 }
 
-// chains returns the sequences that are kept for the key with a digest, in the order of their ends.
+// chains returns the sequences that are kept for the key with a digest, in the order of their ends. It fails as pool.ask does.
 func (p *pool) chains(key digest) (chains []keptChain, err error) {
 	err = p.ask(askChains, func(row []driver.Value) error {
 		// (a value that is no number is read as 0, which is 1970: such a sequence has ended)
@@ -309,7 +310,7 @@ func (p *pool) chains(key digest) (chains []keptChain, err error) {
 }
 
 // keep keeps a sequence for the key with a digest, if the limits let it, and returns the answer, which a function of the database gives: `kept`, `known` or
-// `full` if the database is right.
+// `full` if the database is right. It fails as pool.ask does.
 func (p *pool) keep(key digest, chain keptChain, limits *chains) (reply answer, err error) {
 	err = p.ask(askKeep, func(row []driver.Value) error {
 		reply = answer(fmt.Sprint(row[0]))

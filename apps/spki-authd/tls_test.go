@@ -46,7 +46,8 @@ func tlsConfig(t *testing.T, who person) string {
 		address, certificate, key, writeFile(t, "secret", strings.Repeat("s", 32)+"\n"), folder, folder, writeFile(t, "acl", list))
 }
 
-// askByTLS asks the daemon of a configuration, as a web server that verifies its certificate, whether a person may read a file. It returns the status.
+// askByTLS asks the daemon of a configuration, as a web server that verifies its certificate, whether a person may read a file. It returns the status, and
+// fails if there is no answer, as where another certificate is shown.
 func askByTLS(config *config, who person) (int, error) {
 	client, err := config.client()
 	if err != nil {
