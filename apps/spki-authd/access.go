@@ -169,7 +169,7 @@ func (k *accessKeeper) replace(c *config, allowFewerEnded bool, now time.Time) e
 	}
 	old := k.present.Load()
 	if old != nil && !allowFewerEnded {
-		if lost := next.ended.lost(old.ended); lost > 0 {
+		if lost := next.ended.countLost(old.ended); lost > 0 {
 			next.close()
 			return fmt.Errorf("%s: %d digests that are in force are missing: `spki-authd -reload -fewer` has these certificates count again", c.Ended, lost)
 		}

@@ -17,16 +17,16 @@ import (
 
 // A config is the file of the daemon. README.md says what each field means.
 type config struct {
-	Listen          string  `json:"listen"`
-	SocketMode      string  `json:"socket_mode"`
-	SocketGroup     string  `json:"socket_group"`
-	SecretFile      string  `json:"secret_file"`
-	TLS             *tlsOf  `json:"tls"`
-	Control         string  `json:"control"`
-	Server          string  `json:"server"`
-	Headers         headers `json:"headers"`
-	CertificateForm string  `json:"certificate_form"`
-	PathPrefix      string  `json:"path_prefix"`
+	Listen          string       `json:"listen"`
+	SocketMode      string       `json:"socket_mode"`
+	SocketGroup     string       `json:"socket_group"`
+	SecretFile      string       `json:"secret_file"`
+	TLS             *tlsSettings `json:"tls"`
+	Control         string       `json:"control"`
+	Server          string       `json:"server"`
+	Headers         headers      `json:"headers"`
+	CertificateForm string       `json:"certificate_form"`
+	PathPrefix      string       `json:"path_prefix"`
 	// The path of the single list, or what it is called in messages if it is in a store. It is empty if there are several lists.
 	List          string  `json:"-"`
 	Source        source  `json:"list"`

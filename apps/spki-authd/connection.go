@@ -266,7 +266,7 @@ func (s *connectionServer) answerAll(state *connectionState) {
 	reader := newRequestReader(limited)
 	stage := isFresh
 	for isOpen := true; isOpen; stage = isIdle {
-		// (the most octets that are read for one request, with its line and a body, so that none fills the memory; inquiryOf and leavingOf refuse
+		// (the most octets that are read for one request, with its line and a body, so that none fills the memory; inquiryOf and inquiryOfPut refuse
 		// headers of over HeaderOctets)
 		limited.N = int64(2 * s.decider.config.Limits.HeaderOctets)
 		if s.setStage(state, stage) != nil {

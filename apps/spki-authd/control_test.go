@@ -186,9 +186,9 @@ func TestReopenedByOrder(t *testing.T) {
 	}
 }
 
-// TestStates compares two daemons by -state, which prints a line for each: they have different lists, then the same, and then one has an ended
-// certificate. Where no daemon answers, that is an error.
-func TestStates(t *testing.T) {
+// TestStatesAreCompared compares two daemons by -state, which prints a line for each: they have different lists, then the same, and then one has an
+// ended certificate. Where no daemon answers, that is an error.
+func TestStatesAreCompared(t *testing.T) {
 	one, two := serveHere(t, ""), serveHere(t, "")
 	compare := func() (status int, printed string) {
 		var stdout, stderr bytes.Buffer

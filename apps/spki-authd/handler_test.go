@@ -358,9 +358,9 @@ func TestPanicIsAFailure(t *testing.T) {
 	}
 }
 
-// TestEnvoy asks as Envoy does, whose requests have the client's target behind path_prefix. A target without that prefix, or with an unclear path
-// behind it, is refused.
-func TestEnvoy(t *testing.T) {
+// TestPathPrefixOfEnvoy asks as Envoy does, whose requests have the client's target behind path_prefix. A target without that prefix, or with an unclear
+// path behind it, is refused.
+func TestPathPrefixOfEnvoy(t *testing.T) {
 	s := newSite(t, "")
 	text := strings.Replace(strings.Replace(leastConfig, "nginx", "envoy", 1), "{", `{"path_prefix": "/auth", `, 1)
 	config, err := parseConfig([]byte(text))

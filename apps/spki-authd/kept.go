@@ -22,8 +22,8 @@ import (
 // that a client has left.
 type chains struct {
 	// The folder that has them: a folder for each key, and in it a file for each sequence. Or the store, at the server that is written to.
-	Folder   string   `json:"folder"`
-	Postgres *storeOf `json:"postgres"`
+	Folder   string         `json:"folder"`
+	Postgres *storeSettings `json:"postgres"`
 	// For how many days each is kept at most, how many a key may have, and how many keys may have some.
 	Days int `json:"days"`
 	Each int `json:"each"`

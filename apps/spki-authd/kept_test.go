@@ -387,8 +387,9 @@ func TestEndedGiveWay(t *testing.T) {
 	}
 }
 
-// TestEndedOctets has two sequences of four octets each, and room for two octets more. Once they have ended, the first makes room for one of five octets.
-func TestEndedOctets(t *testing.T) {
+// TestEndedOctetsGiveWay has two sequences of four octets each, and room for two octets more. Once they have ended, the first makes room for one of five
+// octets.
+func TestEndedOctetsGiveWay(t *testing.T) {
 	kept, now := newFolderChains(t, chains{Each: 2, Keys: 2}), time.Now()
 	kept.octets = mostLeft - 10
 	mustAdd(t, kept, "a", "1234", now, answerKept)
@@ -431,9 +432,9 @@ func TestEndedAtStart(t *testing.T) {
 	}
 }
 
-// TestEndedMakeRoom keeps the sequence of one key for nine days where there is room for no other one. Once it has ended, another key's is kept in its
+// TestEndedKeyGivesWay keeps the sequence of one key for nine days where there is room for no other one. Once it has ended, another key's is kept in its
 // place. A row has the key, the days since the row before, and the answer.
-func TestEndedMakeRoom(t *testing.T) {
+func TestEndedKeyGivesWay(t *testing.T) {
 	kept, now := newFolderChains(t, chains{Each: 1, Keys: 1}), time.Now()
 	for _, row := range []struct {
 		key    string
@@ -701,9 +702,9 @@ func TestForeignFiles(t *testing.T) {
 // TestChainSettings checks settings of `chains`, each with one thing wrong, and right ones, which need signed requests.
 func TestChainSettings(t *testing.T) {
 	const isSigned = true
-	ofStore := &storeOf{Host: "/run", Database: "d", User: "u"}
+	ofStore := &storeSettings{Host: "/run", Database: "d", User: "u"}
 	for _, wrong := range []chains{{Folder: "x"}, {Folder: "/x", Days: -1}, {}, {Folder: "/x", Path: "x"}, {Folder: "/x", Path: "/a%2fb"},
-		{Folder: "/x", Postgres: ofStore}, {Postgres: &storeOf{}}} {
+		{Folder: "/x", Postgres: ofStore}, {Postgres: &storeSettings{}}} {
 		if wrong.check(isSigned) == nil {
 			t.Error(wrong)
 		}

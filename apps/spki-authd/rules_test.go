@@ -14,8 +14,8 @@ var rulesOfTests = []rule{
 	{Prefix: "/", Methods: map[string]string{"GET": "read", "PUT": "write"}, Request: []string{"files", "{method}", "{path}"}},
 }
 
-// TestRequests compares the requests that methods and paths mean, and the numbers of the rules. nil is for a method that the rule lacks.
-func TestRequests(t *testing.T) {
+// TestRequestsByRules compares the requests that methods and paths mean, and the numbers of the rules. nil is for a method that the rule lacks.
+func TestRequestsByRules(t *testing.T) {
 	for _, row := range []struct {
 		method, path string
 		wanted       []string

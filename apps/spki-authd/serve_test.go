@@ -180,9 +180,9 @@ func TestConnectionsAreBounded(t *testing.T) {
 	}
 }
 
-// TestOtherRequests sends texts that no web server sends. Each gets one line in the log, and an answer of the decider, which is not 200, or none.
+// TestUnusualRequests sends texts that no web server sends. Each gets one line in the log, and an answer of the decider, which is not 200, or none.
 // `long` has more octets than are read for one request, which are twice header_octets.
-func TestOtherRequests(t *testing.T) {
+func TestUnusualRequests(t *testing.T) {
 	s := serveHere(t, `, "limits": {"seconds": 1}`)
 	for name, text := range map[string]string{
 		"OPTIONS *": "OPTIONS * HTTP/1.1\r\nHost: x\r\nConnection: close\r\n\r\n", "OPTIONS * by 1.0": "OPTIONS * HTTP/1.0\r\n\r\n", "no HTTP": "x\r\n\r\n",
@@ -363,9 +363,9 @@ func (d *recordedDeadline) SetDeadline(until time.Time) error { d.until = until;
 // SetReadDeadline keeps a deadline for reads.
 func (d *recordedDeadline) SetReadDeadline(until time.Time) error { d.until = until; return nil }
 
-// TestDeadlines has an idle connection ended, to make room for a new one or since it was idle for long, while a request comes on it: that request has
-// its whole time.
-func TestDeadlines(t *testing.T) {
+// TestRequestOnEndedConnection has an idle connection ended, to make room for a new one or since it was idle for long, while a request comes on it: that
+// request has its whole time.
+func TestRequestOnEndedConnection(t *testing.T) {
 	for name, ends := range map[string]func(server *connectionServer){
 		"for a new one": (*connectionServer).closeIdle, "after long": func(server *connectionServer) { server.endLate(time.Now().Add(timeIdle + time.Second)) },
 	} {

@@ -304,7 +304,7 @@ func TestTransactClosesStatements(t *testing.T) {
 	conn := new(fakeConn)
 	writer := &pool{patience: time.Second, slots: make(chan *link, 1)}
 	writer.slots <- &link{Conn: conn}
-	l := &timeline{changingStore: &changingStore{store: &store{options: &storeOf{Schema: "s"}}}, writers: []*pool{writer}}
+	l := &timeline{changingStore: &changingStore{store: &store{options: &storeSettings{Schema: "s"}}}, writers: []*pool{writer}}
 	for turn := 0; turn < 3; turn++ {
 		if _, err := l.transact([]string{"SELECT 1 FROM @.entries", "SELECT 2"}); err != nil {
 			t.Fatal(err)

@@ -56,7 +56,7 @@ func TestStoreFigures(t *testing.T) {
 // not be polled again.
 func newFigures(t *testing.T, keys int) *figures {
 	const decades = 1 << 30
-	options := &storeOf{Host: os.Getenv(envHost), Database: "postgres", User: "postgres", Schema: os.Getenv(envSchema), StaleSeconds: decades}
+	options := &storeSettings{Host: os.Getenv(envHost), Database: "postgres", User: "postgres", Schema: os.Getenv(envSchema), StaleSeconds: decades}
 	if err := options.check(); err != nil {
 		t.Fatal(err)
 	}

@@ -69,8 +69,8 @@ const (
 
 // openReader returns what reads a store, and waits for each read of an answer no longer than `patience`. It connects when it is asked first. The error says
 // that the settings are wrong.
-func openReader(options *storeOf, patience time.Duration) (reader, error) {
-	connector, err := pq.NewConnector(options.settings())
+func openReader(options *storeSettings, patience time.Duration) (reader, error) {
+	connector, err := pq.NewConnector(options.connectionString())
 	if err != nil {
 		return nil, err
 	}
@@ -79,7 +79,7 @@ func openReader(options *storeOf, patience time.Duration) (reader, error) {
 	for count := 0; count < options.Connections; count++ {
 		opened.slots <- nil
 	}
-	// (one row more than mostRows shows listOf that there are too many. mostChanges+2 is for the change $1 itself, and for one more than a poll takes)
+	// (one row more than mostRows shows openRows that there are too many. mostChanges+2 is for the change $1 itself, and for one more than a poll takes)
 	for ask, text := range map[int]string{
 		askRows: "SELECT " + stateColumns + ", e.number, e.text FROM " + stateTables + " LEFT JOIN LATERAL (" + rowsOf(sha1.Size, 1) + " UNION ALL " +
 			rowsOf(sha256.Size, 2) + " UNION ALL " + rowsOf(sha512.Size, 3) + fmt.Sprintf(" LIMIT %d) e ON true ORDER BY e.number", mostRows+1),

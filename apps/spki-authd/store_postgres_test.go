@@ -56,7 +56,7 @@ func newChangingStore(t *testing.T, patience time.Duration) *changingStore {
 	if host == "" {
 		t.Skip("no store: tests/suite/test_store.py names one")
 	}
-	options := &storeOf{Host: host, Root: os.Getenv(envRoot), Database: "postgres", User: "postgres", Schema: os.Getenv(envSchema)}
+	options := &storeSettings{Host: host, Root: os.Getenv(envRoot), Database: "postgres", User: "postgres", Schema: os.Getenv(envSchema)}
 	if err := options.check(); err != nil {
 		t.Fatal(err)
 	}

@@ -138,7 +138,7 @@ func newStored(t testing.TB, fields ...string) *storedSite {
 	open := func(entries []byte) (*guard.Guard, error) {
 		return guard.Open([]byte("(3:acl"+string(entries)+")"), guard.Strict, guard.Limits{})
 	}
-	options := &storeOf{Host: "/run", Database: "d", User: "u"}
+	options := &storeSettings{Host: "/run", Database: "d", User: "u"}
 	if err := options.check(); err != nil {
 		t.Fatal(err)
 	}
@@ -428,11 +428,11 @@ func TestStoreConfigs(t *testing.T) {
 	if err != nil {
 		t.Fatal(err)
 	}
-	if settings := config.Source.store; settings.Schema != "spki" || settings.mostAge() != 10*time.Second || !strings.Contains(settings.settings(), "sslmode=disable") {
+	if settings := config.Source.store; settings.Schema != "spki" || settings.mostAge() != 10*time.Second || !strings.Contains(settings.connectionString(), "sslmode=disable") {
 		t.Errorf("%+v", settings)
 	}
 	if config, err = parseConfig([]byte(withStore(`"host": "db", "root": "/a'b", "database": "d", "user": "u"`))); err != nil ||
-		!strings.Contains(config.Source.store.settings(), `sslmode=verify-full sslrootcert='/a\'b'`) {
+		!strings.Contains(config.Source.store.connectionString(), `sslmode=verify-full sslrootcert='/a\'b'`) {
 		t.Errorf("%v", err)
 	}
 	for _, text := range []string{
@@ -447,11 +447,11 @@ func TestStoreConfigs(t *testing.T) {
 	}
 }
 
-// TestKeptRows adds five lists without entries where there is room for three, and asks for the first each time: it stays, and so do the last two.
+// TestKeptLists adds five lists without entries where there is room for three, and asks for the first each time: it stays, and so do the last two.
 // Then it removes one by its digest, and then all.
-func TestKeptRows(t *testing.T) {
+func TestKeptLists(t *testing.T) {
 	s := newStored(t)
-	rows := newKeptRows(3 * octetsRow)
+	lists := newKeptLists(3 * octetsOfList)
 	names := make([]digest, 5)
 	for number := range names {
 		opened, err := s.store.open(nil)
@@ -460,22 +460,22 @@ func TestKeptRows(t *testing.T) {
 		}
 		names[number][0] = byte(number)
 		const octetsOfEntries = 0
-		rows.add(names[number], [][]byte{{byte(number)}}, &list{guard: opened}, octetsOfEntries)
-		rows.get(names[0])
+		lists.add(names[number], [][]byte{{byte(number)}}, &list{guard: opened}, octetsOfEntries)
+		lists.get(names[0])
 	}
 	for number, wanted := range []bool{true, false, false, true, true} {
-		if (rows.get(names[number]) != nil) != wanted {
+		if (lists.get(names[number]) != nil) != wanted {
 			t.Errorf("list %d", number)
 		}
 	}
 	// (the only digest of the list with the number 3)
-	rows.drop([]byte{3})
-	if rows.get(names[3]) != nil || rows.count() != 2 || rows.size != 2*octetsRow || len(rows.byDigest) != 2 {
-		t.Errorf("%d lists of %d octets", rows.count(), rows.size)
+	lists.drop([]byte{3})
+	if lists.get(names[3]) != nil || lists.count() != 2 || lists.size != 2*octetsOfList || len(lists.byDigest) != 2 {
+		t.Errorf("%d lists of %d octets", lists.count(), lists.size)
 	}
-	rows.clear()
-	if rows.count() != 0 || rows.size != 0 || len(rows.byDigest) != 0 {
-		t.Errorf("%d lists of %d octets", rows.count(), rows.size)
+	lists.clear()
+	if lists.count() != 0 || lists.size != 0 || len(lists.byDigest) != 0 {
+		t.Errorf("%d lists of %d octets", lists.count(), lists.size)
 	}
 }
 

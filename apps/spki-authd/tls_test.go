@@ -173,9 +173,9 @@ func TestListenSettings(t *testing.T) {
 	}
 }
 
-// TestOtherCertificate has the client of -health expect Alice's certificate, where another program shows Mallory's: it fails, and does not send the
-// secret.
-func TestOtherCertificate(t *testing.T) {
+// TestHealthOfOtherCertificate has the client of -health expect Alice's certificate, where another program shows Mallory's: it fails, and does not send
+// the secret.
+func TestHealthOfOtherCertificate(t *testing.T) {
 	alice, mallory := newPerson(t), newPerson(t)
 	config, err := parseConfig([]byte(tlsConfig(t, alice)))
 	if err != nil {
