@@ -45,8 +45,8 @@ func TestWrongCertificateForms(t *testing.T) {
 		"half": {base64DER, encoded[:len(encoded)/8*4]}, "an octet behind": {base64DER, base64.StdEncoding.EncodeToString(append(alice.der, 0))},
 		"empty first": {base64DER, "," + encoded}, "spaces": {base64DER, " " + encoded},
 		"two headers in one": {base64DER, encoded + ", " + base64.StdEncoding.EncodeToString(bob.der)},
-		"no Cert":            {xfcc, "Hash=ab"}, "two of them": {xfcc, element + ";" + element}, "two elements": {xfcc, "Hash=a," + element},
-		"two elements, quoted": {xfcc, element + "," + element}, "no end": {xfcc, `Cert="` + alice.escaped()}, "escape at the end": {xfcc, `Cert="\`},
+		"no Cert":            {xfcc, "Hash=ab"}, "two Certs": {xfcc, element + ";" + element}, "two elements": {xfcc, "Hash=a," + element},
+		"two elements, quoted": {xfcc, element + "," + element}, "no end quote": {xfcc, `Cert="` + alice.escaped()}, "escape at the end": {xfcc, `Cert="\`},
 		"no field": {xfcc, alice.escaped()}, "quote inside": {xfcc, "Cert=a" + quote + alice.escaped()},
 	} {
 		if key, err := keyOf(row.text, forms[row.form]); err == nil {

@@ -266,8 +266,8 @@ func (s *connectionServer) answerAll(state *connectionState) {
 	reader := newRequestReader(limited)
 	stage := isFresh
 	for isOpen := true; isOpen; stage = isIdle {
-		// (the most octets that are read for one request, with its line and a body, so that none fills the memory; inquiryOf and inquiryOfPut refuse
-		// headers of over HeaderOctets)
+		// (the most octets that are read for one request, so that none fills the memory: its line and a body may have as many again as its headers.
+		// inquiryOf and inquiryOfPut refuse headers of over HeaderOctets)
 		limited.N = int64(2 * s.decider.config.Limits.HeaderOctets)
 		if s.setStage(state, stage) != nil {
 			return

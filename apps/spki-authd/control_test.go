@@ -164,6 +164,7 @@ func TestReopenedByOrder(t *testing.T) {
 			t.Fatal(err)
 		}
 		if how == "signal" {
+			// (the channel alone says what the signal asks for, so any signal will do)
 			s.daemon.signals.reopen <- os.Interrupt
 			// (the main loop does this after what the signal asks for: when it is answered, both are done)
 			s.runProgram(t, "-reload")

@@ -103,8 +103,7 @@ func (s *site) lastLine(t testing.TB) record {
 	return line
 }
 
-// TestAnswers asks as each person, showing certificates of several people, and compares the status. Alice may read below /web/, Bob below /web/docs/ by
-// his certificate, and Carol below /web/docs/a/ by his and hers.
+// TestAnswers asks as each person, showing no certificates, the person's own or somebody else's, and compares the status. `sequence` is what is shown.
 func TestAnswers(t *testing.T) {
 	s := newSite(t, "")
 	bobs, carols := s.sequencesShown()

@@ -122,7 +122,7 @@ func (d dialer) DialTimeout(network, address string, _ time.Duration) (net.Conn,
 	return &patient{connection, d.patience}, nil
 }
 
-// renew has each connection closed before it would be used again.
+// renew has each connection closed before it would be used again: take then opens a new one.
 func (p *pool) renew() {
 	p.renewals.Add(1)
 }
@@ -289,6 +289,7 @@ func (p *pool) allEnded() (result pollResult, err error) {
 	err = p.ask(askAllEnded, func(row []driver.Value) (err error) {
 		result.storeState, err = stateIn(row)
 		hasState = true
+		// (it is NULL, and read as 0, before the first change)
 		result.token, _ = row[4].(int64)
 		if octets := octetsIn(row[5]); len(octets) == len(digest{}) {
 			result.ended = append(result.ended, *(*digest)(octets))

@@ -308,6 +308,7 @@ func newStoredWithChains(t *testing.T) *storedSite {
 	t.Helper()
 	s := newStored(t, `, "chains": {"postgres": {"host": "/run", "database": "d", "user": "u"}}`+withSignatures)
 	s.table.kept = map[digest][]keptChain{}
+	// (this opens the site's chainKeeper)
 	s.forgetChains()
 	return s
 }
@@ -379,6 +380,7 @@ func TestStoredChainsThatAreNotRead(t *testing.T) {
 func TestHostileRows(t *testing.T) {
 	s := newStored(t)
 	entry := s.entryOf(s.alice)
+	// (within `(3:acl` and `)` the last two would be two lists, and a list that begins with a version)
 	for _, text := range []string{
 		entry + entry, entry[:len(entry)-1], "", "x", entry + ")", ")" + entry, "(5:entry" + s.alice.key + ")", strings.Repeat(entry, 10_000),
 		entry + ")(3:acl" + entry, "(7:version1:0)" + entry,
