@@ -148,8 +148,8 @@ func fromXFCC(text string) ([]byte, error) {
 }
 
 // cutValue returns the value that a text begins with, in quotes or not, and what follows the semicolon behind the value. It fails with errCertificate for
-// a quote without its end, for anything but a semicolon behind a value in quotes, and for a comma, a quote or a backslash in one without. A comma would
-// begin another element, which another proxy wrote.
+// a quote without its end, for anything but a semicolon behind a value in quotes, and for a comma, a quote or a backslash in one without quotes. A comma
+// would begin another element, which another proxy wrote.
 func cutValue(text string) (value, rest string, err error) {
 	if !strings.HasPrefix(text, `"`) {
 		value, rest, _ = strings.Cut(text, ";")

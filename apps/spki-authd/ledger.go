@@ -185,8 +185,7 @@ func (l *ledger) beat() {
 	}
 }
 
-// reopen opens the path again, unless the open file is still there. If it cannot be opened, the old file stays open. Another error says that the new file
-// is open, and that the last lines of the old one may not be on the disk.
+// reopen opens the path again, unless the open file is still there. It fails if the open file cannot be looked at, or as replace does.
 func (l *ledger) reopen() error {
 	present, err := l.file.Stat()
 	if err != nil {

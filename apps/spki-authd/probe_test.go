@@ -204,7 +204,7 @@ func TestProbeOfDaemonThatStops(t *testing.T) {
 }
 
 // TestProbeWords probes what is no address of a folder, and port 1, at which nobody listens, and gives -stopped without -probe: each is an error.
-// Only the last one is one of the command line, with another status.
+// Only that of -stopped is one of the command line, with another status.
 func TestProbeWords(t *testing.T) {
 	for _, words := range [][]string{{"-probe", "files"}, {"-probe", "ftp://localhost/"}, {"-probe", "https://u:p@localhost/"},
 		{"-probe", "https://localhost/?x"}, {"-probe", "https://localhost/?"}, {"-probe", "https:///x"}, {"-probe", "https://localhost/%2F/"}} {

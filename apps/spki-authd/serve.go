@@ -89,7 +89,8 @@ func (d *daemon) closeLedger() error {
 	return d.withLedger(d.ledger.close)
 }
 
-// withLedger has the writer of grants call a function between two writes, and returns its error, or errHangs if that does not end in time.
+// withLedger has the writer of grants call a function between two writes, and returns its error. If that does not end in time, it fails with errHangs: then
+// the function may still be running.
 func (d *daemon) withLedger(call func() error) error {
 	result := make(chan error, 1)
 	if !d.granted.callBetweenWrites(func() { result <- call() }) {

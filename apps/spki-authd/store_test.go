@@ -358,7 +358,7 @@ func TestStoredChains(t *testing.T) {
 }
 
 // TestStoredChainsThatAreNotRead has the store not answer: the answer to a request that may be granted by certificates in it is 503, and neither yes
-// nor no, and that to certificates that are left is `failed`. So is that where the store gives an answer that it should never give.
+// nor no, and that to certificates that are left is `failed`. They are answered by `failed` too where the store gives an answer that it should never give.
 func TestStoredChainsThatAreNotRead(t *testing.T) {
 	s := newStoredWithChains(t)
 	s.expectLeft(t, "kept", answerKept)
