@@ -182,12 +182,13 @@ func (a probeAnswer) hintToRemove() string {
 	return "; remove what it has made"
 }
 
-// countsAsText returns how often each status was the answer, in the order of the statuses, such as `401 20 times, 405 3 times`. noAnswer is the last.
+// countsAsText returns how often each status was the answer, in the order of the statuses, such as `401 20 times, 405 3 times`. noAnswer counts as a status.
 func countsAsText(counts map[string]int) string {
 	names := make([]string, 0, len(counts))
 	for name := range counts {
 		names = append(names, name)
 	}
+	// (digits come before letters, so noAnswer is the last)
 	sort.Strings(names)
 	for place, name := range names {
 		names[place] = fmt.Sprintf("%s %d times", name, counts[name])

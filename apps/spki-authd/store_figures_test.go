@@ -145,8 +145,8 @@ func (f *figures) measureSingle() {
 		f.timeOf(turn % keys)
 	}
 	f.measure("miss", 10_000, notKept)
+	// (any key: its list is kept from the first question on)
 	const sameKey = 7
-	// (so that its list is kept)
 	f.timeOf(sameKey)
 	f.measure("hit", 20_000, func() int { return sameKey })
 }
