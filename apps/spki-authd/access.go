@@ -62,7 +62,8 @@ func readAccess(c *config, now time.Time) (*access, error) {
 	return present, nil
 }
 
-// readEnded reads the digests of ended certificates. With an empty path, which is that of a configuration without such a file, none has ended.
+// readEnded reads the digests of ended certificates. With an empty path, which is that of a configuration without such a file, none has ended. It fails if
+// the file cannot be read or is refused: then the access is not used.
 func (a *access) readEnded(path string) error {
 	if path == "" {
 		return nil
@@ -168,7 +169,7 @@ func (k *accessKeeper) replace(c *config, allowFewerEnded bool, now time.Time) e
 	}
 	old := k.present.Load()
 	if old != nil && !allowFewerEnded {
-		if lost := next.ended.lost(old.ended); lost > 0 {
+		if lost := next.ended.countLost(old.ended); lost > 0 {
 			next.close()
 			return fmt.Errorf("%s: %d digests that are in force are missing: `spki-authd -reload -fewer` has these certificates count again", c.Ended, lost)
 		}

@@ -17,8 +17,8 @@ func verifies(c *cache, signature guard.Signature, verify guard.Verify) (isValid
 	return c.verifies(signature, sha256.Sum256(signature.Message), verify)
 }
 
-// numbered returns a made-up signature, another one for each number. Its message is the number in decimal digits.
-func numbered(number int) guard.Signature {
+// numberedSignature returns a made-up signature, another one for each number. Its message is the number in decimal digits.
+func numberedSignature(number int) guard.Signature {
 	return guard.Signature{Key: []byte("key"), Message: []byte(fmt.Sprint(number)), Value: []byte("value")}
 }
 
@@ -31,10 +31,10 @@ func TestCacheKeepsValidSignatures(t *testing.T) {
 		return string(signed.Message) == "1"
 	}
 	for turn, wanted := range []bool{false, true, true} {
-		if isValid, wasKnown := verifies(cache, numbered(1), verify); !isValid || wasKnown != wanted {
+		if isValid, wasKnown := verifies(cache, numberedSignature(1), verify); !isValid || wasKnown != wanted {
 			t.Errorf("turn %d: %v, %v", turn, isValid, wasKnown)
 		}
-		if isValid, wasKnown := verifies(cache, numbered(2), verify); isValid || wasKnown {
+		if isValid, wasKnown := verifies(cache, numberedSignature(2), verify); isValid || wasKnown {
 			t.Error("a signature that is not valid is kept")
 		}
 	}
@@ -61,17 +61,17 @@ func TestCacheTellsPartsApart(t *testing.T) {
 func TestCacheIsBounded(t *testing.T) {
 	cache, valid := newCache(100), func(guard.Signature) bool { return true }
 	for number := 0; number < 1000; number++ {
-		verifies(cache, numbered(number), valid)
+		verifies(cache, numberedSignature(number), valid)
 		if len(cache.valid.old)+len(cache.valid.young) > 100 {
 			t.Fatalf("%d are kept", len(cache.valid.old)+len(cache.valid.young))
 		}
-		if _, wasKnown := verifies(cache, numbered(0), valid); !wasKnown {
+		if _, wasKnown := verifies(cache, numberedSignature(0), valid); !wasKnown {
 			t.Fatal("what is asked for each time is dropped")
 		}
 	}
 	none := newCache(0)
-	verifies(none, numbered(1), valid)
-	if _, wasKnown := verifies(none, numbered(1), valid); wasKnown {
+	verifies(none, numberedSignature(1), valid)
+	if _, wasKnown := verifies(none, numberedSignature(1), valid); wasKnown {
 		t.Error("a cache of none keeps one")
 	}
 }
@@ -85,7 +85,7 @@ func TestCacheInGoroutines(t *testing.T) {
 		go func() {
 			defer all.Done()
 			for number := 0; number < 500; number++ {
-				if isValid, _ := verifies(cache, numbered(number%70), hasTwoDigits); isValid != (number%70 >= 10) {
+				if isValid, _ := verifies(cache, numberedSignature(number%70), hasTwoDigits); isValid != (number%70 >= 10) {
 					t.Error(number)
 				}
 			}

@@ -13,7 +13,7 @@ import (
 )
 
 // openList opens an access list of these entries with the policy and the limits of all lists. The entries are in canonical form, one behind the other, or
-// nil for none. The caller closes the guard.
+// nil for none. It fails if the library refuses the list. The caller closes the guard.
 func (c *config) openList(entries []byte) (*guard.Guard, error) {
 	policy, err := policyOf(c.Policy)
 	if err != nil {
@@ -23,8 +23,9 @@ func (c *config) openList(entries []byte) (*guard.Guard, error) {
 }
 
 // signaturesOf returns the signatures of a sequence of certificates, at least one, whatever access list is in force. `sequence` is in transport form. It
-// verifies none. It fails with errUnkept if there is none, or if a certificate would not count even if all signatures were valid: so it marks them all as
-// valid, and asks the library for a reason. It also fails with the library's refusal of the sequence. `key` and `now` only complete the question.
+// verifies none. It fails with errEmpty, an errUnkept, if there is no signature, and with errUnkept if a certificate would not count even if all signatures
+// were valid: to find that, it marks them all as valid, and asks the library for a reason. It also fails with the library's refusal of the sequence. `key`
+// and `now` only complete the question.
 func (c *config) signaturesOf(sequence string, key guard.ProvenKey, now time.Time) ([]guard.Signature, error) {
 	empty, err := c.openList(nil)
 	if err != nil {
@@ -58,7 +59,8 @@ func (c *config) signaturesOf(sequence string, key guard.ProvenKey, now time.Tim
 }
 
 // namesKey says whether a principal, in canonical form, names a key: by itself or by a hash that the policy allows. It is false for any other principal,
-// such as a name. The library decides, by a list with one entry, which gives this principal everything. `now` only completes the question.
+// such as a name. The library decides, by a list with one entry, which gives this principal everything. It fails if the library refuses that list or the
+// question. `now` only completes the question.
 func (c *config) namesKey(principal []byte, key guard.ProvenKey, now time.Time) (bool, error) {
 	if !bytes.HasPrefix(principal, []byte("(10:public-key")) && !bytes.HasPrefix(principal, []byte("(4:hash")) {
 		return false, nil

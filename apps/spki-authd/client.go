@@ -108,8 +108,8 @@ func fromEscapedPEM(text string) ([]byte, error) {
 }
 
 // fromBase64DER reads DER in base64, as Caddy, HAProxy, Apache and Traefik pass it on. Traefik writes the client's whole chain, with a comma between the
-// certificates: the first is the client's own. Behind a comma nothing but base64 may be: servers join two headers by a comma and a space, and the first of
-// them could be one that the client has sent.
+// certificates: the first is the client's own. It fails unless each is base64 without spaces: servers join two headers by a comma and a space, and the
+// first of them could be one that the client has sent.
 func fromBase64DER(text string) (first []byte, err error) {
 	for place, part := range strings.Split(text, ",") {
 		octets, err := base64.StdEncoding.Strict().DecodeString(part)
@@ -148,8 +148,8 @@ func fromXFCC(text string) ([]byte, error) {
 }
 
 // cutValue returns the value that a text begins with, in quotes or not, and what follows the semicolon behind the value. It fails with errCertificate for
-// a quote without its end, for anything but a semicolon behind a value in quotes, and for a comma, a quote or a backslash in one without. A comma would
-// begin another element, which another proxy wrote.
+// a quote without its end, for anything but a semicolon behind a value in quotes, and for a comma, a quote or a backslash in one without quotes. A comma
+// would begin another element, which another proxy wrote.
 func cutValue(text string) (value, rest string, err error) {
 	if !strings.HasPrefix(text, `"`) {
 		value, rest, _ = strings.Cut(text, ";")

@@ -21,8 +21,8 @@ func TestCertificateForms(t *testing.T) {
 		"nginx": {escapedPEM, alice.escaped()}, "nginx, less is escaped": {escapedPEM, strings.ReplaceAll(alice.pem(), "\n", "%0A")},
 		"caddy": {base64DER, encoded}, "traefik": {base64DER, encoded + "," + base64.StdEncoding.EncodeToString(bob.der)},
 		"envoy":             {xfcc, `By=spiffe://x;Hash=ab;Cert="` + alice.escaped() + `";Subject="CN=\"a;b\",Cert=x"`},
-		"envoy, last":       {xfcc, `Hash=ab;Cert="` + alice.escaped() + `"`},
-		"envoy, semicolons": {xfcc, `cert="` + alice.escaped() + `";`},
+		"envoy, Cert last":  {xfcc, `Hash=ab;Cert="` + alice.escaped() + `"`},
+		"envoy, `;` at end": {xfcc, `cert="` + alice.escaped() + `";`},
 	} {
 		if key, err := keyOf(row.text, forms[row.form]); err != nil || string(key) != alice.key {
 			t.Errorf("%s: %q, %v", name, key, err)
@@ -45,8 +45,8 @@ func TestWrongCertificateForms(t *testing.T) {
 		"half": {base64DER, encoded[:len(encoded)/8*4]}, "an octet behind": {base64DER, base64.StdEncoding.EncodeToString(append(alice.der, 0))},
 		"empty first": {base64DER, "," + encoded}, "spaces": {base64DER, " " + encoded},
 		"two headers in one": {base64DER, encoded + ", " + base64.StdEncoding.EncodeToString(bob.der)},
-		"no Cert":            {xfcc, "Hash=ab"}, "two of them": {xfcc, element + ";" + element}, "two elements": {xfcc, "Hash=a," + element},
-		"two elements, quoted": {xfcc, element + "," + element}, "no end": {xfcc, `Cert="` + alice.escaped()}, "escape at the end": {xfcc, `Cert="\`},
+		"no Cert":            {xfcc, "Hash=ab"}, "two Certs": {xfcc, element + ";" + element}, "two elements": {xfcc, "Hash=a," + element},
+		"two elements, quoted": {xfcc, element + "," + element}, "no end quote": {xfcc, `Cert="` + alice.escaped()}, "escape at the end": {xfcc, `Cert="\`},
 		"no field": {xfcc, alice.escaped()}, "quote inside": {xfcc, "Cert=a" + quote + alice.escaped()},
 	} {
 		if key, err := keyOf(row.text, forms[row.form]); err == nil {

@@ -17,16 +17,16 @@ import (
 
 // A config is the file of the daemon. README.md says what each field means.
 type config struct {
-	Listen          string  `json:"listen"`
-	SocketMode      string  `json:"socket_mode"`
-	SocketGroup     string  `json:"socket_group"`
-	SecretFile      string  `json:"secret_file"`
-	TLS             *tlsOf  `json:"tls"`
-	Control         string  `json:"control"`
-	Server          string  `json:"server"`
-	Headers         headers `json:"headers"`
-	CertificateForm string  `json:"certificate_form"`
-	PathPrefix      string  `json:"path_prefix"`
+	Listen          string       `json:"listen"`
+	SocketMode      string       `json:"socket_mode"`
+	SocketGroup     string       `json:"socket_group"`
+	SecretFile      string       `json:"secret_file"`
+	TLS             *tlsSettings `json:"tls"`
+	Control         string       `json:"control"`
+	Server          string       `json:"server"`
+	Headers         headers      `json:"headers"`
+	CertificateForm string       `json:"certificate_form"`
+	PathPrefix      string       `json:"path_prefix"`
 	// The path of the single list, or what it is called in messages if it is in a store. It is empty if there are several lists.
 	List          string  `json:"-"`
 	Source        source  `json:"list"`
@@ -97,7 +97,8 @@ func readConfig(path string) (*config, error) {
 	return config, err
 }
 
-// parseConfig reads the text of a configuration: one object, of known fields, each once. It sets the fields that were left out, and checks all.
+// parseConfig reads the text of a configuration: one object, of known fields, each once. It sets the fields that were left out, and checks all. The error
+// says what is wrong: then the configuration is not used.
 func parseConfig(octets []byte) (*config, error) {
 	if err := checkFields(octets); err != nil {
 		return nil, err

@@ -213,7 +213,7 @@ func (s *connectionServer) endLate(now time.Time) {
 	}
 }
 
-// endLate ends a connection if its time is over: by a deadline that has passed, its reads and writes fail. Before the first setStage it has no time.
+// endLate ends a connection if its time is over: by a deadline that has passed, its reads and writes fail. Before the first setStage no time is set for it.
 func (c *connectionState) endLate(now time.Time) {
 	c.mutex.Lock()
 	defer c.mutex.Unlock()
@@ -266,8 +266,8 @@ func (s *connectionServer) answerAll(state *connectionState) {
 	reader := newRequestReader(limited)
 	stage := isFresh
 	for isOpen := true; isOpen; stage = isIdle {
-		// (the most octets that are read for one request, with its line and a body, so that none fills the memory; inquiryOf and leavingOf refuse
-		// headers of over HeaderOctets)
+		// (the most octets that are read for one request, so that none fills the memory: its line and a body may have as many again as its headers.
+		// inquiryOf and inquiryOfPut refuse headers of over HeaderOctets)
 		limited.N = int64(2 * s.decider.config.Limits.HeaderOctets)
 		if s.setStage(state, stage) != nil {
 			return

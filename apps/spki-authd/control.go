@@ -98,7 +98,7 @@ func (d *daemon) answerOrder(connection net.Conn, limit time.Duration) {
 }
 
 // doOrder does an order, and returns the text of its answer, for some orders also with an error. It fails with errOrder for a text that is no order,
-// with errMainBusy if the main loop is busy for longer than `patience`, and as what the order asks for does.
+// with errMainBusy if the main loop is busy for longer than `patience`, and as health, reload and reopen do.
 func (d *daemon) doOrder(order string, patience time.Duration) (string, error) {
 	switch order {
 	case orderHealth:
@@ -129,7 +129,7 @@ func (d *daemon) inMain(call func(*daemon) error, patience time.Duration) error 
 }
 
 // sendOrder sends an order to the daemon whose control socket has a path, and returns the text of the answer. The error is the reason behind
-// orderFailed, with which the daemon may send a text too, or says that no whole answer came.
+// orderFailed, with which the daemon may send a text too, or says why there is no whole answer.
 func sendOrder(path, order string) (string, error) {
 	connection, err := net.DialTimeout("unix", path, timeForOrder)
 	if err != nil {

@@ -164,6 +164,7 @@ func TestReopenedByOrder(t *testing.T) {
 			t.Fatal(err)
 		}
 		if how == "signal" {
+			// (the channel alone says what the signal asks for, so any signal will do)
 			s.daemon.signals.reopen <- os.Interrupt
 			// (the main loop does this after what the signal asks for: when it is answered, both are done)
 			s.runProgram(t, "-reload")
@@ -186,9 +187,9 @@ func TestReopenedByOrder(t *testing.T) {
 	}
 }
 
-// TestStates compares two daemons by -state, which prints a line for each: they have different lists, then the same, and then one has an ended
-// certificate. Where no daemon answers, that is an error.
-func TestStates(t *testing.T) {
+// TestStatesAreCompared compares two daemons by -state, which prints a line for each: they have different lists, then the same, and then one has an
+// ended certificate. Where no daemon answers, that is an error.
+func TestStatesAreCompared(t *testing.T) {
 	one, two := serveHere(t, ""), serveHere(t, "")
 	compare := func() (status int, printed string) {
 		var stdout, stderr bytes.Buffer

@@ -21,13 +21,13 @@ func TestCostToStrangers(t *testing.T) {
 		return verify.Signature(signed)
 	}
 	bobs, carols := s.sequencesShown()
-	own := s.mallory.sign(s.mallory.certificate(s.mallory, prefix("read", "/web/"), propagates))
+	own := s.mallory.sign(s.mallory.certificate(s.mallory, prefixTag("read", "/web/"), propagates))
 	many := make([]string, 16)
 	for place := range many {
 		many[place] = own
 	}
-	forged := s.mallory.sign(s.alice.certificate(s.mallory, prefix("read", "/web/"), ""))
-	asAlice := s.mallory.signAs(s.alice, s.alice.certificate(s.mallory, prefix("read", "/web/"), ""))
+	forged := s.mallory.sign(s.alice.certificate(s.mallory, prefixTag("read", "/web/"), ""))
+	asAlice := s.mallory.signAs(s.alice, s.alice.certificate(s.mallory, prefixTag("read", "/web/"), ""))
 	for _, row := range []struct {
 		name, shown, path string
 		who               person

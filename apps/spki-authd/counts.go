@@ -1,6 +1,6 @@
 package main
 
-// What the daemon counts for its metrics.
+// What the daemon counts for its metrics. A record is one answer, and a rule says which request it is about: its number is its place in the configuration.
 
 import (
 	"sync/atomic"
@@ -19,7 +19,7 @@ type counts struct {
 
 // answers are all answers, in the order in which they are counted.
 var answers = []answer{
-	answerYes, answerNo, answerRefused, answerUnknown, answerLimited, answerFailed, answerKept, answerKnown, answerFull,
+	answerYes, answerNo, answerRefused, answerUnauthenticated, answerLimited, answerFailed, answerKept, answerKnown, answerFull,
 }
 
 // A histogram has how many requests took how long, and how long all took together. Each request is in one bucket, which are as many as the bounds and one

@@ -66,7 +66,7 @@ func (d *decider) decide(inquiry *inquiry, now time.Time) record {
 	}
 	client, proof, err := d.clientOf(inquiry)
 	if err != nil && errors.Is(err, errNoCertificate) {
-		return result.withReason(answerUnknown, err)
+		return result.withReason(answerUnauthenticated, err)
 	}
 	if err != nil {
 		return result.withReason(answerRefused, err)
@@ -123,7 +123,7 @@ func (d *decider) judge(result *record, key guard.ProvenKey, path, sequence stri
 	case decision.Granted():
 		result.Answer, result.Entry = answerYes, result.entryNumber(decision.Entry())
 	case sequence == "":
-		result.Answer = answerUnknown
+		result.Answer = answerUnauthenticated
 	}
 }
 
@@ -200,7 +200,8 @@ func (d *decider) decideAnew(result *record, question guard.Question, path, sequ
 
 // decideBy is decideAnew by a list. It verifies signatures only if no certificate has ended early, and the request would be granted if all signatures
 // were valid: so a client that gets no right by them costs no verification. Otherwise the record counts those in front of the first ended one as not
-// verified. If all signatures are valid, the sequence is kept for decideKnown, by its text `sequence`.
+// verified. If all signatures are valid, the sequence is kept for decideKnown, by its text `sequence`. It fails if a store is stale, or if the library
+// refuses the question.
 func (d *decider) decideBy(result *record, present *access, list *list, question guard.Question, sequence string) (guard.Decision, error) {
 	opened, err := list.guard.Ask(question)
 	if err != nil {

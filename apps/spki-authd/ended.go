@@ -30,7 +30,7 @@ var errLastLine = errors.New("its last line is not `end COUNT SHA256` for the li
 // behind which ` # ` and a comment may be. The last line has the number of digests and the digest of all octets before it: a file that was cut, or that
 // somebody has added a line to, is refused.
 func parseEnded(text []byte) (*endedCertificates, error) {
-	body, last, isWhole := lastLineOf(text)
+	body, last, isWhole := cutLastLine(text)
 	if !isWhole {
 		return nil, errLastLine
 	}
@@ -46,8 +46,8 @@ func parseEnded(text []byte) (*endedCertificates, error) {
 	return read, nil
 }
 
-// lastLineOf returns the lines before the last one, and the last one without its line feed. If that has none, isWhole is false.
-func lastLineOf(text []byte) (body []byte, last string, isWhole bool) {
+// cutLastLine returns the lines before the last one, and the last one without its line feed. If that has none, isWhole is false.
+func cutLastLine(text []byte) (body []byte, last string, isWhole bool) {
 	if !bytes.HasSuffix(text, []byte("\n")) {
 		return nil, "", false
 	}
@@ -55,7 +55,8 @@ func lastLineOf(text []byte) (body []byte, last string, isWhole bool) {
 	return text[:begin], string(text[begin : len(text)-1]), true
 }
 
-// add adds the digest of a line, which has no line feed. An empty line and a comment add nothing. It fails for any other line without a digest.
+// add adds the digest of a line, which has no line feed. An empty line and a comment add nothing. It fails for any other line that is not a digest, alone
+// or with ` # ` and a comment behind it.
 func (e *endedCertificates) add(line string) error {
 	if line == "" || line[0] == '#' {
 		return nil
@@ -71,8 +72,8 @@ func (e *endedCertificates) add(line string) error {
 	return nil
 }
 
-// lost returns how many digests of an older file are not in this one.
-func (e *endedCertificates) lost(older *endedCertificates) int {
+// countLost returns how many digests of an older file are not in this one.
+func (e *endedCertificates) countLost(older *endedCertificates) int {
 	lost := 0
 	for each := range older.digests {
 		if _, isThere := e.digests[each]; !isThere {

@@ -40,7 +40,8 @@ func TestWrongEnded(t *testing.T) {
 		"another digest": strings.Replace(whole, otherDigest, oneDigest, 1), "a large letter": withLastLine(strings.ToUpper(otherDigest) + "\n"),
 		"short": withLastLine(oneDigest[1:] + "\n"), "long": withLastLine(oneDigest + "0a\n"), "two in a line": withLastLine(oneDigest + " " + otherDigest + "\n"),
 		"a text": withLastLine("sha256 of the release\n"), "behind a text": withLastLine("sha256 " + oneDigest + "\n"), "a space before": withLastLine(" " + oneDigest + "\n"),
-		"no space": withLastLine(oneDigest + "# x\n"), "a carriage return": withLastLine(oneDigest + "\r\n"), "spaces": withLastLine("  \n"), "half": withLastLine(oneDigest + " #x\n"),
+		"no space before #": withLastLine(oneDigest + "# x\n"), "no space behind #": withLastLine(oneDigest + " #x\n"),
+		"a carriage return": withLastLine(oneDigest + "\r\n"), "spaces": withLastLine("  \n"),
 	} {
 		if _, err := parseEnded([]byte(text)); err == nil {
 			t.Errorf("%s: %.200q is read", name, text)

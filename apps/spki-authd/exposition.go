@@ -12,13 +12,14 @@ type exposition struct {
 	strings.Builder
 }
 
-// writeFamily writes the two lines that precede the values of one metric. `name` lacks `spki_authd_`, here and below. `kind` is counter, gauge or histogram,
-// and `help` is on one line, without a backslash.
+// writeFamily writes the two lines that precede the values of one metric. `name` is without its prefix `spki_authd_`. `kind` is counter, gauge or
+// histogram, and `help` is on one line, without a backslash.
 func (e *exposition) writeFamily(name, kind, help string) {
 	fmt.Fprintf(e, "# HELP spki_authd_%s %s\n# TYPE spki_authd_%s %s\n", name, help, name, kind)
 }
 
-// writeValue writes the line of one value of a metric. `labels` is as `{rule="1"}` or empty: no label has an octet that a client sends.
+// writeValue writes the line of one value of a metric. `name` is without its prefix `spki_authd_`. `labels` is as `{rule="1"}` or empty: no label has an
+// octet that a client sends.
 func (e *exposition) writeValue(name, labels string, value any) {
 	fmt.Fprintf(e, "spki_authd_%s%s %v\n", name, labels, value)
 }

@@ -46,7 +46,8 @@ func readFile(path string, most int) ([]byte, error) {
 	return octets, err
 }
 
-// writeSynced writes a file that only this user may read, and calls fsync. A file that is there is overwritten, and keeps its mode.
+// writeSynced writes a file that only this user may read, and calls fsync. A file that is there is overwritten, and keeps its mode. It fails if the file
+// cannot be opened or written, or if fsync or closing it fails: then a part of the text may be in it.
 func writeSynced(path, text string) error {
 	file, err := os.OpenFile(path, os.O_WRONLY|os.O_CREATE|os.O_TRUNC, 0o600)
 	if err != nil {

@@ -76,15 +76,16 @@ func FuzzSequence(f *testing.F) {
 // is granted by it than checkGrant allows.
 func FuzzLeft(f *testing.F) {
 	s := newSite(f, `, "chains": {"folder": "`+f.TempDir()+`"}`+withSignatures)
-	bobs, hashed := s.alice.sign(s.toBob), s.alice.signedCertificate(s.bob.hashOfKey(), prefix("read", "/web/docs/"), "(7:comment[1:x]1:y)")
+	// (`hashed` names Bob by the hash of his key, and has a comment with a display hint)
+	bobs, hashed := s.alice.sign(s.toBob), s.alice.signedCertificate(s.bob.hashOfKey(), prefixTag("read", "/web/docs/"), "(7:comment[1:x]1:y)")
 	for _, shown := range []string{"", bobs, hashed, s.bob.key + bobs, bobs + s.bob.sign(s.toCarol), s.alice.signedNameCertificate("builders", s.bob.key)} {
 		f.Add([]byte("(8:sequence" + shown + ")"))
 	}
 	f.Fuzz(func(t *testing.T, octets []byte) {
 		defer s.log.Reset()
 		s.chains = &folderChains{chains: *s.config.Chains, byKey: map[string][]keptChain{}}
-		status, reply := s.leaves(t, s.bob, string(octets))
-		isKept := s.keeps(t, s.bob)
+		status, reply := s.leaveAs(t, s.bob, string(octets))
+		isKept := s.keepsFor(t, s.bob)
 		if status != 201 && status != 400 || (status == 201) != isKept || (reply == answerKept) != isKept {
 			t.Errorf("%d: %+v", status, s.lastLine(t))
 		}

@@ -13,8 +13,8 @@ type gate chan struct{}
 
 // library is the gate before those calls of the library that may take long. Each such call has a thread of the system. While calls last, Go begins
 // one more thread for each further request, and ends the program where it gets none: the unit of systemd lets the daemon have TasksMax. More calls
-// than processors make no answer faster, but a short question must not wait for all long ones: so twice as many may last, and 56 more. Who has passed
-// must not enter again before leaving.
+// than processors make no answer faster, but a short question must not wait for all long ones: so twice as many may last, and 56 more. On four processors
+// that is 64, far below TasksMax. A goroutine that has passed must not enter again before it leaves.
 var library = make(gate, 2*runtime.GOMAXPROCS(0)+56)
 
 // How long a goroutine waits at a gate. Past that its request is answered by `failed`.

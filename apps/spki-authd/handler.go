@@ -63,7 +63,7 @@ func (d *decider) answer(request *http.Request, now time.Time) (result record) {
 	}()
 	read := d.config.inquiryOf
 	if d.config.isPut(request) {
-		read = d.config.leavingOf
+		read = d.config.inquiryOfPut
 	}
 	inquiry, err := read(request)
 	if errors.Is(err, errSecret) {

@@ -34,9 +34,9 @@ type site struct {
 func newSite(t testing.TB, fields string) *site {
 	t.Helper()
 	here := &site{alice: newPerson(t), bob: newPerson(t), carol: newPerson(t), mallory: newPerson(t)}
-	list := "(3:acl(5:entry" + here.alice.key + propagates + "(3:tag" + prefix("read", "/web/") + ")))"
-	here.toBob = here.alice.certificate(here.bob, prefix("read", "/web/docs/"), propagates)
-	here.toCarol = here.bob.certificate(here.carol, prefix("read", "/web/docs/a/"), "")
+	list := "(3:acl(5:entry" + here.alice.key + propagates + "(3:tag" + prefixTag("read", "/web/") + ")))"
+	here.toBob = here.alice.certificate(here.bob, prefixTag("read", "/web/docs/"), propagates)
+	here.toCarol = here.bob.certificate(here.carol, prefixTag("read", "/web/docs/a/"), "")
 	text := `{"listen": "unix:/run/x/s", "server": "nginx", "list": "` + writeFile(t, "acl", list) + `", "log": "/log",
 		"requests": [{"prefix": "/", "methods": {"GET": "read", "PUT": "write"}, "request": ["files", "{method}", "{path}"]}]` + fields + `}`
 	config, err := parseConfig([]byte(text))
@@ -103,8 +103,7 @@ func (s *site) lastLine(t testing.TB) record {
 	return line
 }
 
-// TestAnswers asks as each person, showing certificates of several people, and compares the status. Alice may read below /web/, Bob below /web/docs/ by
-// his certificate, and Carol below /web/docs/a/ by his and hers.
+// TestAnswers asks as each person, showing no certificates, the person's own or somebody else's, and compares the status. `sequence` is what is shown.
 func TestAnswers(t *testing.T) {
 	s := newSite(t, "")
 	bobs, carols := s.sequencesShown()
@@ -172,9 +171,9 @@ func TestHeadersAndLog(t *testing.T) {
 // TestForgedSignatures shows certificates whose signatures are not those of Alice's key: each is denied, also the second time.
 func TestForgedSignatures(t *testing.T) {
 	s := newSite(t, "")
-	forged := s.mallory.sign(s.alice.certificate(s.mallory, prefix("read", "/web/"), propagates))
-	own := s.mallory.sign(s.mallory.certificate(s.mallory, prefix("read", "/web/"), propagates))
-	asAlice := s.mallory.signAs(s.alice, s.alice.certificate(s.mallory, prefix("read", "/web/"), propagates))
+	forged := s.mallory.sign(s.alice.certificate(s.mallory, prefixTag("read", "/web/"), propagates))
+	own := s.mallory.sign(s.mallory.certificate(s.mallory, prefixTag("read", "/web/"), propagates))
+	asAlice := s.mallory.signAs(s.alice, s.alice.certificate(s.mallory, prefixTag("read", "/web/"), propagates))
 	for name, shown := range map[string]string{"by Mallory's key": forged, "from Mallory": own, "as if by Alice's key": asAlice} {
 		for turn := 0; turn < 2; turn++ {
 			if response := s.askAs(s.mallory, "GET", "/web/x", sequence(shown)); response.StatusCode != 403 {
@@ -339,7 +338,7 @@ func TestExplanationsAreBounded(t *testing.T) {
 // TestEndOfCertificate asks before the end of a certificate, which is granted, and after it, which is denied.
 func TestEndOfCertificate(t *testing.T) {
 	s := newSite(t, "")
-	until := s.alice.certificateUntil(s.bob, prefix("read", "/web/"), "2026-01-01_00:00:00")
+	until := s.alice.certificateUntil(s.bob, prefixTag("read", "/web/"), "2026-01-01_00:00:00")
 	for year, wanted := range map[int]int{2025: 200, 2027: 403} {
 		s.now = func() time.Time { return time.Date(year, 1, 1, 0, 0, 0, 0, time.UTC) }
 		if response := s.askAs(s.bob, "GET", "/web/x", sequence(s.alice.sign(until))); response.StatusCode != wanted {
@@ -358,9 +357,9 @@ func TestPanicIsAFailure(t *testing.T) {
 	}
 }
 
-// TestEnvoy asks as Envoy does, whose requests have the client's target behind path_prefix. A target without that prefix, or with an unclear path
-// behind it, is refused.
-func TestEnvoy(t *testing.T) {
+// TestPathPrefixOfEnvoy asks as Envoy does, whose requests have the client's target behind path_prefix. A target without that prefix, or with an unclear
+// path behind it, is refused.
+func TestPathPrefixOfEnvoy(t *testing.T) {
 	s := newSite(t, "")
 	text := strings.Replace(strings.Replace(leastConfig, "nginx", "envoy", 1), "{", `{"path_prefix": "/auth", `, 1)
 	config, err := parseConfig([]byte(text))

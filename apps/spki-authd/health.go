@@ -53,7 +53,7 @@ func (c *config) checkAnswers() error {
 		return err
 	}
 	defer response.Body.Close()
-	if reply := answer(response.Header.Get("X-Spki-Answer")); reply != answerRefused && reply != answerUnknown {
+	if reply := answer(response.Header.Get("X-Spki-Answer")); reply != answerRefused && reply != answerUnauthenticated {
 		return fmt.Errorf("%s: the answer is %d, %q", c.Listen, response.StatusCode, reply)
 	}
 	return nil

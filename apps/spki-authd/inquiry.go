@@ -113,7 +113,7 @@ func (c *config) addressOf(request *http.Request) (string, error) {
 	return headerValue(request, c.Headers.Address)
 }
 
-// checkServer returns errSecret if the configuration has a secret and a request does not: then the request is not the web server's.
+// checkServer returns errSecret if the configuration has a secret and a request lacks it, or has another: then the request is not the web server's.
 func (c *config) checkServer(request *http.Request) error {
 	if len(c.secret) == 0 {
 		return nil

@@ -22,8 +22,8 @@ import (
 // that a client has left.
 type chains struct {
 	// The folder that has them: a folder for each key, and in it a file for each sequence. Or the store, at the server that is written to.
-	Folder   string   `json:"folder"`
-	Postgres *storeOf `json:"postgres"`
+	Folder   string         `json:"folder"`
+	Postgres *storeSettings `json:"postgres"`
 	// For how many days each is kept at most, how many a key may have, and how many keys may have some.
 	Days int `json:"days"`
 	Each int `json:"each"`
@@ -41,8 +41,8 @@ const (
 // A chainKeeper has the sequences of certificates that clients have left, in a folder or in a store. They give nothing by themselves: a request is decided
 // by them as if it showed them.
 type chainKeeper interface {
-	// currentOf returns the sequences of a key that have not ended, by their ends. Here and below, `key` is the SHA-256 digest of a key in hexadecimal
-	// digits.
+	// currentOf returns the sequences of a key that have not ended, in the order of their ends. Here and below, `key` is the SHA-256 digest of a key in
+	// hexadecimal digits.
 	currentOf(key string, now time.Time) ([]keptChain, error)
 	// whyNotAdded returns the answer to a sequence that add would not keep, or an empty one if add may keep it. It is asked before a signature is verified.
 	whyNotAdded(key string, chain keptChain, now time.Time) (answer, error)
@@ -144,6 +144,7 @@ func openChains(c *config, now time.Time, mayRemove bool) (chainKeeper, error) {
 	case c.Chains.Postgres == nil:
 		return openFolderChains(c.Chains, now, mayRemove)
 	}
+	// (a store is waited for as long as the line of a grant)
 	reader, err := openReader(c.Chains.Postgres, c.Limits.timeOfRequest()/partOfGrant)
 	if err != nil {
 		return nil, err
@@ -335,7 +336,7 @@ func endOf(text string) (end time.Time, hasEnd bool) {
 	return end, hasEnd
 }
 
-// currentOf returns the sequences of a key that have not ended, by their ends. It never fails.
+// currentOf returns the sequences of a key that have not ended, in the order of their ends. It never fails.
 func (f *folderChains) currentOf(key string, now time.Time) ([]keptChain, error) {
 	f.mutex.Lock()
 	defer f.mutex.Unlock()
@@ -404,7 +405,7 @@ func (d *decider) judgeAll(result *record, key guard.ProvenKey, path string, inq
 	// (each sequence is tried with the record as it is before the first decision)
 	before := *result
 	d.judge(result, key, path, inquiry.sequence, now)
-	if inquiry.sequence != "" || result.Answer != answerUnknown || d.chains == nil {
+	if inquiry.sequence != "" || result.Answer != answerUnauthenticated || d.chains == nil {
 		return
 	}
 	chains, err := d.chains.currentOf(result.Key, now)

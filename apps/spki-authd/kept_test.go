@@ -67,15 +67,15 @@ func (p person) putRequest(t testing.TB, target, sequence string) *http.Request 
 	return request
 }
 
-// leaves sends the site a request by which a person leaves certificates, and returns the status and the answer.
-func (s *site) leaves(t testing.TB, who person, sequence string) (int, answer) {
+// leaveAs sends the site a request by which a person leaves certificates, and returns the status and the answer.
+func (s *site) leaveAs(t testing.TB, who person, sequence string) (int, answer) {
 	t.Helper()
 	response := s.respond(who.putRequest(t, usualPath, sequence))
 	return response.StatusCode, answer(response.Header.Get("X-Spki-Answer"))
 }
 
-// keeps says whether any sequence that a client has left is kept for a person's key.
-func (s *site) keeps(t testing.TB, who person) bool {
+// keepsFor says whether any sequence that a client has left is kept for a person's key.
+func (s *site) keepsFor(t testing.TB, who person) bool {
 	t.Helper()
 	chains, err := s.chains.currentOf(hexDigest([]byte(who.key)), s.now())
 	if err != nil {
@@ -89,8 +89,8 @@ func (s *site) keeps(t testing.TB, who person) bool {
 func TestKeptChains(t *testing.T) {
 	s := newSiteWithChains(t)
 	bobs, carols := s.sequencesShown()
-	other := sequence(s.alice.sign(s.alice.certificate(s.bob, prefix("read", "/web/other/"), "")))
-	third := sequence(s.alice.sign(s.alice.certificate(s.bob, prefix("read", "/web/third/"), "")))
+	other := sequence(s.alice.sign(s.alice.certificate(s.bob, prefixTag("read", "/web/other/"), "")))
+	third := sequence(s.alice.sign(s.alice.certificate(s.bob, prefixTag("read", "/web/third/"), "")))
 	const put = "PUT"
 	for _, row := range []struct {
 		name, target, sequence string
@@ -122,7 +122,7 @@ func TestKeptChains(t *testing.T) {
 	} {
 		status, reply := 0, answer("")
 		if row.target == put {
-			status, reply = s.leaves(t, row.who, row.sequence)
+			status, reply = s.leaveAs(t, row.who, row.sequence)
 		} else {
 			status = s.statusFor(row.who, row.target, row.sequence)
 		}
@@ -163,7 +163,7 @@ func (p person) signedNameCertificate(name, subject string) string {
 // request: Bob's. A chain without a reason in its row is kept, and any other one is refused with that reason.
 func TestWhichChainsAreKept(t *testing.T) {
 	s := newSiteWithChains(t)
-	tag := prefix("read", "/web/")
+	tag := prefixTag("read", "/web/")
 	name := "(4:name" + s.alice.key + "8:builders)"
 	toBob, toName := s.alice.sign(s.toBob), s.alice.signedCertificate(name, tag, "")
 	definition := s.alice.signedNameCertificate("builders", s.bob.key)
@@ -210,8 +210,8 @@ func TestWhichChainsAreKept(t *testing.T) {
 	} {
 		// (a new folder, so that no row leaves a sequence for the next one)
 		s.chains = newFolderChains(t, chains{Each: 2, Keys: 2})
-		status, reply := s.leaves(t, s.bob, sequence(row.shown...))
-		line, isKept := s.lastLine(t), s.keeps(t, s.bob)
+		status, reply := s.leaveAs(t, s.bob, sequence(row.shown...))
+		line, isKept := s.lastLine(t), s.keepsFor(t, s.bob)
 		if row.reason == "" && (status != 201 || reply != answerKept || !isKept) {
 			t.Errorf("%s: %d, %+v", row.name, status, line)
 		}
@@ -227,8 +227,8 @@ func TestEndedIsNotKept(t *testing.T) {
 	bobs, _ := s.sequencesShown()
 	s.config.Ended = writeFile(t, "ended", withLastLine(digestOfText(s.toBob)+" # stolen\n"))
 	s.mustReload(t)
-	status, reply := s.leaves(t, s.bob, bobs)
-	if status != 400 || reply != answerRefused || !strings.HasSuffix(s.lastLine(t).Reason, "has ended") || s.keeps(t, s.bob) {
+	status, reply := s.leaveAs(t, s.bob, bobs)
+	if status != 400 || reply != answerRefused || !strings.HasSuffix(s.lastLine(t).Reason, "has ended") || s.keepsFor(t, s.bob) {
 		t.Errorf("%d, %+v", status, s.lastLine(t))
 	}
 }
@@ -242,8 +242,8 @@ func TestStrangersLeave(t *testing.T) {
 	verified := s.counts.verified.Load()
 	for place, wanted := range []answer{answerKept, answerKept, answerFull, answerFull} {
 		stranger := newPerson(t)
-		shown := sequence(s.mallory.sign(s.mallory.certificate(stranger, prefix("read", "/web/"), "")))
-		if _, reply := s.leaves(t, stranger, shown); reply != wanted {
+		shown := sequence(s.mallory.sign(s.mallory.certificate(stranger, prefixTag("read", "/web/"), "")))
+		if _, reply := s.leaveAs(t, stranger, shown); reply != wanted {
 			t.Errorf("%d: %s, wanted %s", place, reply, wanted)
 		}
 		if s.statusFor(stranger, "/web/x", "") != 401 || s.statusFor(stranger, "/web/x", shown) != 403 {
@@ -367,6 +367,7 @@ func TestEndedGiveWay(t *testing.T) {
 		{217, "c", "c1", answerFull, "a1 a2 b1"},
 		{217, "a", "a2", answerKnown, "a1 a2 b1"},
 		{217, "a", "a3", answerKept, "a2 a3 b1"},
+		// (b1 has ended after 240 hours, and a2 after 336)
 		{241, "c", "c1", answerKept, "a2 a3 c1"},
 		{337, "a", "a2", answerKept, "a2 a3 c1"},
 		{337, "a", "a4", answerFull, "a2 a3 c1"},
@@ -386,8 +387,9 @@ func TestEndedGiveWay(t *testing.T) {
 	}
 }
 
-// TestEndedOctets has two sequences of four octets each, and room for two octets more. Once they have ended, the first makes room for one of five octets.
-func TestEndedOctets(t *testing.T) {
+// TestEndedOctetsGiveWay has two sequences of four octets each, and room for two octets more. Once they have ended, the first makes room for one of five
+// octets.
+func TestEndedOctetsGiveWay(t *testing.T) {
 	kept, now := newFolderChains(t, chains{Each: 2, Keys: 2}), time.Now()
 	kept.octets = mostLeft - 10
 	mustAdd(t, kept, "a", "1234", now, answerKept)
@@ -430,9 +432,9 @@ func TestEndedAtStart(t *testing.T) {
 	}
 }
 
-// TestEndedMakeRoom keeps the sequence of one key for nine days where there is room for no other one. Once it has ended, another key's is kept in its
+// TestEndedKeyGivesWay keeps the sequence of one key for nine days where there is room for no other one. Once it has ended, another key's is kept in its
 // place. A row has the key, the days since the row before, and the answer.
-func TestEndedMakeRoom(t *testing.T) {
+func TestEndedKeyGivesWay(t *testing.T) {
 	kept, now := newFolderChains(t, chains{Each: 1, Keys: 1}), time.Now()
 	for _, row := range []struct {
 		key    string
@@ -454,7 +456,7 @@ func TestNoncesOfLeaving(t *testing.T) {
 	s.reopenChains(t)
 	for place, wanted := range []answer{answerKept, answerRefused} {
 		stranger := newPerson(t)
-		if _, reply := s.leaves(t, stranger, sequence(s.mallory.sign(s.mallory.certificate(stranger, prefix("read", "/"), "")))); reply != wanted {
+		if _, reply := s.leaveAs(t, stranger, sequence(s.mallory.sign(s.mallory.certificate(stranger, prefixTag("read", "/"), "")))); reply != wanted {
 			t.Errorf("%d: %s, %+v", place, reply, s.lastLine(t))
 		}
 	}
@@ -515,11 +517,11 @@ func (s *site) putAttacks(bobs, other string) map[string]func(*http.Request) {
 func TestPutAttacks(t *testing.T) {
 	s := newSiteWithChains(t)
 	bobs, _ := s.sequencesShown()
-	other := sequence(s.alice.sign(s.alice.certificate(s.bob, prefix("read", "/web/docs/"), "")))
+	other := sequence(s.alice.sign(s.alice.certificate(s.bob, prefixTag("read", "/web/docs/"), "")))
 	for name, change := range s.putAttacks(bobs, other) {
 		request := s.bob.putRequest(t, usualPath, bobs)
 		change(request)
-		if response := s.respond(request); response.StatusCode < 400 || s.keeps(t, s.bob) {
+		if response := s.respond(request); response.StatusCode < 400 || s.keepsFor(t, s.bob) {
 			t.Errorf("%s: %d, %+v", name, response.StatusCode, s.lastLine(t))
 		}
 	}
@@ -536,7 +538,7 @@ func TestPutRefusals(t *testing.T) {
 		t.Error("too long: ", response.StatusCode, s.lastLine(t))
 	}
 	// (a query that looks like a request that Bob may do)
-	if response := s.respond(s.bob.putRequest(t, target+"?GET=/web/docs/b", bobs)); response.StatusCode != 400 || s.keeps(t, s.bob) {
+	if response := s.respond(s.bob.putRequest(t, target+"?GET=/web/docs/b", bobs)); response.StatusCode != 400 || s.keepsFor(t, s.bob) {
 		t.Error("a query: ", response.StatusCode, s.lastLine(t))
 	}
 	request := s.bob.putRequest(t, target, bobs)
@@ -559,10 +561,10 @@ func TestKeptChainsEnd(t *testing.T) {
 	s := newSiteWithChains(t)
 	begun := time.Now()
 	end := begun.AddDate(0, 0, 10).UTC().Format("2006-01-02_15:04:05")
-	short := sequence(s.alice.sign(s.alice.certificateUntil(s.bob, prefix("read", "/web/docs/"), end)))
-	long := sequence(s.alice.sign(s.alice.certificate(s.bob, prefix("read", "/web/docs/"), "")))
+	short := sequence(s.alice.sign(s.alice.certificateUntil(s.bob, prefixTag("read", "/web/docs/"), end)))
+	long := sequence(s.alice.sign(s.alice.certificate(s.bob, prefixTag("read", "/web/docs/"), "")))
 	for _, text := range []string{short, long} {
-		if _, reply := s.leaves(t, s.bob, text); reply != answerKept {
+		if _, reply := s.leaveAs(t, s.bob, text); reply != answerKept {
 			t.Error(reply)
 		}
 	}
@@ -594,7 +596,7 @@ func TestEndedFiles(t *testing.T) {
 	s := newSiteWithChains(t)
 	begun, kept := time.Now(), s.chains.(*folderChains)
 	bobsKey, carolsKey := hexDigest([]byte(s.bob.key)), hexDigest([]byte(s.carol.key))
-	long := sequence(s.alice.sign(s.alice.certificate(s.bob, prefix("read", "/web/docs/"), "")))
+	long := sequence(s.alice.sign(s.alice.certificate(s.bob, prefixTag("read", "/web/docs/"), "")))
 	mustAdd(t, kept, bobsKey, long, begun, answerKept)
 	kept.Keys = 1
 	for place, key := range []string{bobsKey, carolsKey} {
@@ -629,10 +631,10 @@ func TestKeptNowhere(t *testing.T) {
 	if err := os.WriteFile(s.config.Chains.Folder, nil, 0o600); err != nil {
 		t.Fatal(err)
 	}
-	if status, reply := s.leaves(t, s.bob, bobs); status != 503 || reply != answerFailed || !strings.Contains(s.lastLine(t).Reason, "not a directory") {
+	if status, reply := s.leaveAs(t, s.bob, bobs); status != 503 || reply != answerFailed || !strings.Contains(s.lastLine(t).Reason, "not a directory") {
 		t.Error(status, reply, s.lastLine(t))
 	}
-	if s.keeps(t, s.bob) {
+	if s.keepsFor(t, s.bob) {
 		t.Error("what has no file is kept")
 	}
 }
@@ -700,9 +702,9 @@ func TestForeignFiles(t *testing.T) {
 // TestChainSettings checks settings of `chains`, each with one thing wrong, and right ones, which need signed requests.
 func TestChainSettings(t *testing.T) {
 	const isSigned = true
-	ofStore := &storeOf{Host: "/run", Database: "d", User: "u"}
+	ofStore := &storeSettings{Host: "/run", Database: "d", User: "u"}
 	for _, wrong := range []chains{{Folder: "x"}, {Folder: "/x", Days: -1}, {}, {Folder: "/x", Path: "x"}, {Folder: "/x", Path: "/a%2fb"},
-		{Folder: "/x", Postgres: ofStore}, {Postgres: &storeOf{}}} {
+		{Folder: "/x", Postgres: ofStore}, {Postgres: &storeSettings{}}} {
 		if wrong.check(isSigned) == nil {
 			t.Error(wrong)
 		}
@@ -729,7 +731,7 @@ func TestDiskThatHangs(t *testing.T) {
 		answer, _ := kept.add("a", chain, time.Now())
 		added <- answer
 	}()
-	// (until `add` holds this lock: it then waits for a reader of the FIFO)
+	// (until `add` holds this lock, for which it need not wait: it then waits for a reader of the FIFO)
 	for kept.writing.TryLock() {
 		kept.writing.Unlock()
 		time.Sleep(time.Millisecond)

@@ -43,15 +43,15 @@ type file interface {
 // The mode of a new ledger, from which the daemon's umask takes rights away: its owner may write and its group may read.
 const modeOfLedger = 0o640
 
-// openLedger opens the ledger at a path, or makes it. `syncs` is syncNever, syncSeconds or syncEach. It fails if it cannot, if that is no ordinary file, if
-// another daemon writes it, or if fsync fails for its folder.
+// openLedger opens the ledger at a path, or makes it. `syncs` is syncNever, syncSeconds or syncEach. It fails as ledger.open does: then the ledger that it
+// returns is not used.
 func openLedger(path, syncs string) (*ledger, error) {
 	opened := &ledger{path: path, syncs: syncs}
 	return opened, opened.open()
 }
 
-// open opens or makes the file. It fails if it cannot, if that is no ordinary file, if another daemon writes it, or if fsync fails for its folder,
-// and then changes nothing in `l`. If the last line of the file is cut, isCut has the next one begin behind a line feed.
+// open opens or makes the file. It fails if the file cannot be opened or made, is no ordinary file, or is written by another daemon, or if fsync fails for
+// its folder. Then it changes nothing in `l`. If the last line of the file is cut, isCut has the next one begin behind a line feed.
 func (l *ledger) open() error {
 	if err := checkLedgerPath(l.path); err != nil {
 		return err
@@ -103,8 +103,8 @@ func checkOpenable(path string) error {
 	return nil
 }
 
-// lockLedger locks a file for this daemon alone, until it is closed, and returns whether its last line is cut, and how many octets it has. It fails if it
-// is no ordinary file, and if another daemon has locked it.
+// lockLedger locks a file for this daemon alone, until it is closed, and returns whether its last line is cut, and how many octets it has. It fails if the
+// file is no ordinary one, if another daemon has locked it, or if it cannot be read.
 func lockLedger(opened *os.File) (isCut bool, size int64, err error) {
 	about, err := opened.Stat()
 	if err == nil && !about.Mode().IsRegular() {
@@ -121,7 +121,8 @@ func lockLedger(opened *os.File) (isCut bool, size int64, err error) {
 	return last[0] != '\n', about.Size(), err
 }
 
-// syncFolder calls fsync for a folder, so that a new file in it is not lost if the machine stops.
+// syncFolder calls fsync for a folder, so that a new file in it is not lost if the machine stops. It fails if the folder cannot be opened, or if fsync
+// fails.
 func syncFolder(path string) error {
 	folder, err := os.Open(path)
 	if err != nil {
@@ -184,8 +185,7 @@ func (l *ledger) beat() {
 	}
 }
 
-// reopen opens the path again, unless the open file is still there. If it cannot be opened, the old file stays open. Another error says that the new file
-// is open, and that the last lines of the old one may not be on the disk.
+// reopen opens the path again, unless the open file is still there. It fails if the open file cannot be looked at, or as replace does.
 func (l *ledger) reopen() error {
 	present, err := l.file.Stat()
 	if err != nil {

@@ -167,9 +167,9 @@ func TestCutLedger(t *testing.T) {
 	ledger.mustHave(t, "one\ntw\nfour\nfive\n")
 }
 
-// TestSyncs writes two lines while fsync fails, and two when it works again. A row says whether the first, the second and the third write succeed. With
-// syncEach the first two fail. With syncSeconds a write fails after a `beat` has failed. The file has the lines whose write succeeded.
-func TestSyncs(t *testing.T) {
+// TestFailingSyncs writes two lines while fsync fails, and two when it works again. A row says whether the first, the second and the third write
+// succeed. With syncEach the first two fail. With syncSeconds a write fails after a `beat` has failed. The file has the lines whose write succeeded.
+func TestFailingSyncs(t *testing.T) {
 	for syncs, row := range map[string]struct{ first, second, third bool }{
 		syncNever: {true, true, true}, syncSeconds: {true, false, false}, syncEach: {false, false, true},
 	} {

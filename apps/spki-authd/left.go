@@ -30,8 +30,9 @@ var (
 	errSubject = fmt.Errorf("%w: the subject of the last one is not the key that has signed the request", errUnkept)
 )
 
-// isPut says whether a request is read as one that leaves certificates, by leavingOf, and not as an inquiry, by inquiryOf. A web server that names the
-// client's method in a header asks by GET: from it each PUT is. Envoy asks by the client's method: from it only a PUT to the path of certificates is.
+// isPut says whether a request is read as one that leaves certificates, by inquiryOfPut, and not as an inquiry, by inquiryOf. A web server that names the
+// client's method in a header asks by GET, so no PUT of it is an inquiry. Envoy asks by the client's method, so only a PUT to the path of certificates is
+// not one.
 func (c *config) isPut(request *http.Request) bool {
 	return request.Method == http.MethodPut && (c.Headers.Method != "" || c.isForChains(request))
 }
@@ -41,9 +42,9 @@ func (c *config) isForChains(request *http.Request) bool {
 	return c.Chains != nil && request.RequestURI == c.Chains.Path
 }
 
-// leavingOf reads a request that leaves certificates, with its body. It fails with errSecret, errPlace if the target is not the path for certificates,
+// inquiryOfPut reads a request that leaves certificates, with its body. It fails with errSecret, errPlace if the target is not the path for certificates,
 // errTooLong, errHeader, errHost, errLength or errChain, and then returns what it has read until then, for the log.
-func (c *config) leavingOf(request *http.Request) (inquiry inquiry, err error) {
+func (c *config) inquiryOfPut(request *http.Request) (inquiry inquiry, err error) {
 	if err := c.checkServer(request); err != nil {
 		return inquiry, err
 	}
@@ -83,8 +84,8 @@ func bodyOf(request *http.Request) ([]byte, error) {
 	return body, nil
 }
 
-// sequenceInBody returns the value of a body in transport form, whatever form the body has. It fails with errChain if the body is no S-expression, is a
-// sequence of nothing, or is over mostShownOctets in transport form. Whether it is a sequence is tested later.
+// sequenceInBody returns the S-expression of a body in transport form, whatever form the body has. It fails with errChain if the body is no S-expression,
+// is a sequence without certificates, or is over mostShownOctets in transport form. Whether it is a sequence is tested later.
 func sequenceInBody(body []byte) (string, error) {
 	canonical, err := guard.Canonical(body)
 	sequence := "{" + base64.StdEncoding.EncodeToString(canonical) + "}"

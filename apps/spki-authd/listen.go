@@ -79,7 +79,7 @@ func modeOf(text string) (fs.FileMode, error) {
 }
 
 // listen takes the socket or the port from the service manager, if that has opened it, or opens it, and makes its queue long. With `tls` the listener
-// speaks TLS.
+// speaks TLS. It fails as inheritedSocket, checkInherited, openEntrance and lengthenQueue do, and then leaves no listener open.
 func (c *config) listen() (net.Listener, error) {
 	listener, err := inheritedSocket()
 	if err == nil && listener != nil {
@@ -99,7 +99,7 @@ func (c *config) listen() (net.Listener, error) {
 	return c.TLS.wrap(listener), nil
 }
 
-// closeAfter closes a listener, if it is not nil, and returns the fault that it is given.
+// closeAfter closes a listener, if it is not nil, and returns `fault`, the error after which it is not needed.
 func closeAfter(listener net.Listener, fault error) error {
 	if listener != nil {
 		listener.Close()
@@ -107,7 +107,8 @@ func closeAfter(listener net.Listener, fault error) error {
 	return fault
 }
 
-// openEntrance opens the socket or the port of the configuration, and gives a socket its group and its mode.
+// openEntrance opens the socket or the port of the configuration, and gives a socket its group and its mode. It fails if the system refuses that, and as
+// openSocket and setGroupAndMode do: then the socket is closed again.
 func (c *config) openEntrance() (net.Listener, error) {
 	if address := strings.TrimPrefix(c.Listen, tlsScheme); address != c.Listen {
 		return net.Listen("tcp", address)

@@ -34,7 +34,7 @@ func twoSites(t *testing.T) *site {
 	t.Helper()
 	s := newSite(t, "")
 	list := func(who person) string {
-		return writeFile(t, "acl", "(3:acl(5:entry"+who.key+propagates+"(3:tag"+prefix("read", "/web/")+")))")
+		return writeFile(t, "acl", "(3:acl(5:entry"+who.key+propagates+"(3:tag"+prefixTag("read", "/web/")+")))")
 	}
 	s.config.List, s.config.Lists = "", []scope{
 		{Prefix: "/web/api/", List: list(s.carol)}, {Host: "a.example", List: list(s.alice)}, {Host: "b.example", List: list(s.bob)},
@@ -50,7 +50,7 @@ func twoSites(t *testing.T) *site {
 // on the other. `hasList` says whether a list decides, which the log then names.
 func TestListsOfHosts(t *testing.T) {
 	s := twoSites(t)
-	toMallory := s.alice.sign(s.alice.certificate(s.mallory, prefix("read", "/web/"), ""))
+	toMallory := s.alice.sign(s.alice.certificate(s.mallory, prefixTag("read", "/web/"), ""))
 	for name, row := range map[string]struct {
 		host        string
 		who         person

@@ -197,7 +197,8 @@ func (w *words) order() string {
 	return ""
 }
 
-// askDaemon prints the health of the daemon of a configuration, or gives it an order and prints its answer.
+// askDaemon prints the health of the daemon of a configuration, or gives it an order and prints its answer. It fails if the configuration is refused, and
+// as checkHealth and sendOrder do.
 func askDaemon(words words, out io.Writer) error {
 	config, err := readConfig(words.config)
 	if err != nil {

@@ -80,12 +80,12 @@ func hasPathOctets(text string) bool {
 	return true
 }
 
-// isHexadecimal says whether an octet is a hexadecimal digit, in small or large letters.
+// isHexadecimal says whether an octet is a hexadecimal digit, in small or large letters. The bit 0x20 makes a large letter a small one.
 func isHexadecimal(octet byte) bool {
 	return '0' <= octet && octet <= '9' || 'a' <= octet|0x20 && octet|0x20 <= 'f'
 }
 
-// digit returns the value, from 0 to 15, of an octet that isHexadecimal.
+// digit returns the value, from 0 to 15, of an octet that isHexadecimal. The bit 0x20 makes a large letter a small one.
 func digit(octet byte) byte {
 	if octet <= '9' {
 		return octet - '0'

@@ -119,8 +119,8 @@ func digestOfText(text string) string {
 	return hex.EncodeToString(digest[:])
 }
 
-// prefix returns, in canonical form, the tag `(files WORD (* prefix PATH))`: a word such as read, for all paths that begin with PATH.
-func prefix(word, path string) string {
+// prefixTag returns, in canonical form, the tag `(files WORD (* prefix PATH))`: a word such as read, for all paths that begin with PATH.
+func prefixTag(word, path string) string {
 	return "(5:files" + str(word) + "(1:*6:prefix" + str(path) + "))"
 }
 

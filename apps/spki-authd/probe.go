@@ -1,6 +1,7 @@
 package main
 
-// The command -probe, which asks a finished site for what it must deny. probe_asker.go has the requests, and how they are sent.
+// The command -probe, which asks a finished site for what it must deny. probe_asker.go has the requests, each a try, and the askers, of which each sends
+// them by one protocol.
 
 import (
 	"errors"
@@ -24,9 +25,9 @@ type probe struct {
 }
 
 var (
-	errBase    = errors.New("-probe takes the address of a folder, such as https://files.example.org/")
-	errGranted = errors.New("the site grants what it must deny")
-	errShown   = errors.New("nothing is shown")
+	errBase         = errors.New("-probe takes the address of a folder, such as https://files.example.org/")
+	errGranted      = errors.New("the site grants what it must deny")
+	errNothingShown = errors.New("nothing is shown")
 )
 
 // noAnswer is printed in place of a status for a request without an answer.
@@ -97,11 +98,11 @@ func baseOf(address string) (*url.URL, error) {
 }
 
 // sendAll sends all requests of `tries` by an asker, and prints how often each status was the answer. It leaves an asker out, and prints why, if the server
-// lacks its protocol, or if it may fail and gets no first answer. It fails if another asker gets no first answer, and with errShown if a request is
-// answered by 429 again and again. Without -stopped it also fails with errShown if the first answer is 5xx, or if most requests have 5xx or no answer.
+// lacks its protocol, or if it may fail and gets no first answer. It fails if another asker gets no first answer. It fails with errNothingShown if a request
+// is answered by 429 again and again, and without -stopped also if the first answer is 5xx, or if over half of the requests have 5xx or no answer.
 func (p *probe) sendAll(asker asker) error {
 	first, err := asker.send(p.base, tries[0])
-	if err != nil && asker.mayFail && !errors.Is(err, errShown) {
+	if err != nil && asker.mayFail && !errors.Is(err, errNothingShown) {
 		fmt.Fprintf(p.out, "%s: left out, the server gives no answer: %v\n", asker.name, err)
 		return nil
 	}
@@ -113,7 +114,7 @@ func (p *probe) sendAll(asker asker) error {
 		return nil
 	}
 	if !p.isStopped && verdictOf(first.status) == isFailed {
-		return fmt.Errorf("%w: %s: %s is %d; does the daemon run?", errShown, asker.name, tries[0].method, first.status)
+		return fmt.Errorf("%w: %s: %s is %d; does the daemon run?", errNothingShown, asker.name, tries[0].method, first.status)
 	}
 	counts, sentBefore, failedBefore := map[string]int{}, p.sent, p.failed
 	p.note(asker, first, counts)
@@ -123,19 +124,19 @@ func (p *probe) sendAll(asker asker) error {
 	fmt.Fprintf(p.out, "%s: %s\n", asker.name, countsAsText(counts))
 	sent, failed := p.sent-sentBefore, p.failed-failedBefore+counts[noAnswer]
 	if !p.isStopped && 2*failed > sent {
-		return fmt.Errorf("%w: %s: %d of %d requests have 5xx or no answer; does the daemon run?", errShown, asker.name, failed, sent)
+		return fmt.Errorf("%w: %s: %d of %d requests have 5xx or no answer; does the daemon run?", errNothingShown, asker.name, failed, sent)
 	}
 	return nil
 }
 
 // sendOthers sends all requests of `tries` but the first by an asker, and counts the answers, also in `counts` by their statuses. A request that the
-// protocol cannot send is not counted. It fails with errShown if one request is answered by 429 again and again.
+// protocol cannot send is not counted. It fails with errNothingShown if one request is answered by 429 again and again.
 func (p *probe) sendOthers(asker asker, counts map[string]int) error {
 	for _, each := range tries[1:] {
 		answer, err := asker.send(p.base, each)
 		switch {
 		case errors.Is(err, errNotSent):
-		case errors.Is(err, errShown):
+		case errors.Is(err, errNothingShown):
 			return fmt.Errorf("%s: %w", asker.name, err)
 		case err != nil:
 			p.sent++
@@ -160,14 +161,14 @@ func (p *probe) note(asker asker, answer probeAnswer, counts map[string]int) {
 	}
 }
 
-// end returns errGranted if anything was granted, and errShown if the daemon was to be stopped and no answer is 5xx, which would show that. Otherwise
-// it prints the total, with `nothing was granted`. Without -stopped, sendAll has tested whether the answers show that the daemon was asked.
+// end returns errGranted if anything was granted, and errNothingShown if the daemon was to be stopped and no answer is 5xx, which would show that.
+// Otherwise it prints the total, with `nothing was granted`. Without -stopped, sendAll has tested whether the answers show that the daemon was asked.
 func (p *probe) end() error {
 	switch {
 	case p.granted > 0:
 		return fmt.Errorf("%w: %d of %d requests", errGranted, p.granted, p.sent)
 	case p.isStopped && p.failed == 0:
-		return fmt.Errorf("%w: no answer is 5xx, so the daemon is not stopped, or the web server denies without it", errShown)
+		return fmt.Errorf("%w: no answer is 5xx, so the daemon is not stopped, or the web server denies without it", errNothingShown)
 	}
 	fmt.Fprintf(p.out, "%s/: %d requests, nothing was granted\n", p.base, p.sent)
 	return nil
@@ -181,12 +182,13 @@ func (a probeAnswer) hintToRemove() string {
 	return "; remove what it has made"
 }
 
-// countsAsText returns how often each status was the answer, in the order of the statuses, such as `401 20 times, 405 3 times`. noAnswer is the last.
+// countsAsText returns how often each status was the answer, in the order of the statuses, such as `401 20 times, 405 3 times`. noAnswer counts as a status.
 func countsAsText(counts map[string]int) string {
 	names := make([]string, 0, len(counts))
 	for name := range counts {
 		names = append(names, name)
 	}
+	// (digits come before letters, so noAnswer is the last)
 	sort.Strings(names)
 	for place, name := range names {
 		names[place] = fmt.Sprintf("%s %d times", name, counts[name])

@@ -89,7 +89,7 @@ type probeAnswer struct {
 }
 
 // askersOf returns the askers of a site: one without a key and one with a key that nobody knows, by each protocol of its address. Without TLS there
-// is only one without a key.
+// is only one without a key. It fails only if no random octets can be read.
 func askersOf(base *url.URL) ([]asker, error) {
 	if base.Scheme == "http" {
 		return []asker{newAsker("HTTP/1.1 without TLS", 1, nil)}, nil
@@ -121,7 +121,8 @@ func newAsker(name string, protocol int, certificate *tls.Certificate) asker {
 	return asker{name, protocol, certificate != nil, client}
 }
 
-// newStrangeCertificate makes a key that no server knows, and returns a certificate for TLS that this key has signed.
+// newStrangeCertificate makes a key that no server knows, and returns a certificate for TLS that this key has signed. It fails only if no random octets
+// can be read.
 func newStrangeCertificate() (*tls.Certificate, error) {
 	private, err := ecdsa.GenerateKey(elliptic.P256(), rand.Reader)
 	if err != nil {
@@ -135,8 +136,8 @@ func newStrangeCertificate() (*tls.Certificate, error) {
 }
 
 // send sends a request, for a path that nobody has asked for before, and returns the answer. While that is 429, it waits timeAgain and sends the request
-// for another path, up to mostAgain times, and fails with errShown then. It fails with errNotSent for a request that the protocol cannot send, and as
-// sendOnce does where there is no answer.
+// for another path, up to mostAgain times, and fails with errNothingShown if the last answer is 429 too. It fails with errNotSent for a request that the
+// protocol cannot send, and as sendOnce does where there is no answer.
 func (a asker) send(base *url.URL, attempt try) (probeAnswer, error) {
 	if attempt.needsHTTP1 && a.protocol != 1 {
 		return probeAnswer{}, errNotSent
@@ -144,7 +145,7 @@ func (a asker) send(base *url.URL, attempt try) (probeAnswer, error) {
 	for count := 0; ; count++ {
 		answer, err := a.sendOnce(base, attempt)
 		if err == nil && answer.status == http.StatusTooManyRequests && count == mostAgain {
-			err = fmt.Errorf("%w: each answer to %s is 429", errShown, attempt.method)
+			err = fmt.Errorf("%w: each answer to %s is 429", errNothingShown, attempt.method)
 		}
 		if err != nil || answer.status != http.StatusTooManyRequests {
 			return answer, err
@@ -195,7 +196,7 @@ func freshAddress(base *url.URL, path string) (string, error) {
 	return base.String() + "/" + path, nil
 }
 
-// randomName returns a name that nobody has used before.
+// randomName returns a name that nobody has used before: it has 128 random bits. It fails only if no random octets can be read.
 func randomName() (string, error) {
 	var octets [16]byte
 	_, err := rand.Read(octets[:])

@@ -89,19 +89,19 @@ func TestProbe(t *testing.T) {
 		"all is denied":             {never, 200, statusDone, "", "nothing was granted"},
 		"denied, none was stopped":  {never, 200, statusRefused, "-stopped", "nothing is shown"},
 		"the daemon is stopped":     {always, 500, statusDone, "-stopped", "nothing was granted"},
-		"no gateway":                {always, 502, statusDone, "-stopped", "nothing was granted"},
-		"stopped without the words": {always, 500, statusRefused, "", "does the daemon run?"},
+		"a bad gateway":             {always, 502, statusDone, "-stopped", "nothing was granted"},
+		"stopped, without -stopped": {always, 500, statusRefused, "", "does the daemon run?"},
 		"a page of errors":          {always, 200, statusRefused, "-stopped", "granted: GET /files/spki-probe-"},
 		"no such file":              {always, 404, statusRefused, "", "granted: GET /files/spki-probe-"},
 		"no such file, stopped":     {always, 404, statusRefused, "-stopped", "granted: GET"},
 		"a redirect":                {always, 302, statusRefused, "", "granted: GET"},
-		"it has not changed":        {always, 304, statusRefused, "", "granted: GET"},
+		"not modified":              {always, 304, statusRefused, "", "granted: GET"},
 		"a conflict":                {isMethod("MKCOL"), 409, statusRefused, "", "granted: MKCOL"},
 		"one method":                {isMethod("PUT"), 201, statusRefused, "", "; remove what it has made"},
-		"a method of nobody's":      {isMethod("PROBE"), 404, statusRefused, "", "granted: PROBE"},
-		"small letters":             {isMethod("get"), 404, statusRefused, "", "granted: get"},
-		"a question of methods":     {isMethod("OPTIONS"), 204, statusRefused, "", "granted: OPTIONS"},
-		"a head":                    {isMethod("HEAD"), 404, statusRefused, "", "granted: HEAD"},
+		"an unknown method":         {isMethod("PROBE"), 404, statusRefused, "", "granted: PROBE"},
+		"get, in small letters":     {isMethod("get"), 404, statusRefused, "", "granted: get"},
+		"OPTIONS":                   {isMethod("OPTIONS"), 204, statusRefused, "", "granted: OPTIONS"},
+		"HEAD":                      {isMethod("HEAD"), 404, statusRefused, "", "granted: HEAD"},
 		"no such method":            {isMethod("TRACE"), 405, statusDone, "", "405 1 times"},
 		"not done by the server":    {isMethod("LOCK"), 501, statusDone, "", "501 1 times"},
 		"a kind of file":            {hasSuffix(".css"), 404, statusRefused, "", ".css is 404"},
@@ -110,8 +110,8 @@ func TestProbe(t *testing.T) {
 		"any key":                   {hasKey, 404, statusRefused, "", "HTTP/1.1, a strange key"},
 		"the daemon's own header":   {hasAnswer, 404, statusRefused, "", "granted"},
 		"a password":                {hasPassword, 200, statusRefused, "", "granted"},
-		"too many for ever":         {isMethod("PUT"), 429, statusRefused, "", "each answer to PUT is 429"},
-		"too many for any key":      {hasKey, 429, statusRefused, "", "each answer to GET is 429"},
+		"429 to PUT for ever":       {isMethod("PUT"), 429, statusRefused, "", "each answer to PUT is 429"},
+		"429 to any key":            {hasKey, 429, statusRefused, "", "each answer to GET is 429"},
 	} {
 		t.Run(name, func(t *testing.T) {
 			status, printed, paths := probeHandler(t, denies(each.isHole, each.answer), strings.Fields(each.words)...)
@@ -204,7 +204,7 @@ func TestProbeOfDaemonThatStops(t *testing.T) {
 }
 
 // TestProbeWords probes what is no address of a folder, and port 1, at which nobody listens, and gives -stopped without -probe: each is an error.
-// Only the last one is one of the command line, with another status.
+// Only that of -stopped is one of the command line, with another status.
 func TestProbeWords(t *testing.T) {
 	for _, words := range [][]string{{"-probe", "files"}, {"-probe", "ftp://localhost/"}, {"-probe", "https://u:p@localhost/"},
 		{"-probe", "https://localhost/?x"}, {"-probe", "https://localhost/?"}, {"-probe", "https:///x"}, {"-probe", "https://localhost/%2F/"}} {

@@ -94,9 +94,9 @@ func TestAddressesOfOneClient(t *testing.T) {
 	}
 }
 
-// TestLimited asks more often than a key or an address may. With a rate of 1, two requests at once are allowed, and further ones get 429, or the
+// TestTooManyRequests asks more often than a key or an address may. With a rate of 1, two requests at once are allowed, and further ones get 429, or the
 // refused_status 403, until a second later. Where addresses are limited, a request without one is refused.
-func TestLimited(t *testing.T) {
+func TestTooManyRequests(t *testing.T) {
 	for fields, wanted := range map[string]int{"": 429, `, "refused_status": 403`: 403} {
 		for limit, address := range map[string]string{"address_rate": "192.0.2.1", "key_rate": ""} {
 			s := newSite(t, fields+`, "limits": {"`+limit+`": 1}`)
@@ -142,9 +142,9 @@ func TestClock(t *testing.T) {
 	}
 }
 
-// TestSlowRequests has a grant's line take three seconds, at whose end the main loop notes the time. The request must not note the earlier time of its
-// begin then: the clock has not gone back.
-func TestSlowRequests(t *testing.T) {
+// TestClockAfterSlowGrant has a grant's line take three seconds, at whose end the main loop notes the time. The request must not note the earlier time
+// of its begin then: the clock has not gone back.
+func TestClockAfterSlowGrant(t *testing.T) {
 	s := newSite(t, "")
 	at := time.Now()
 	s.now = func() time.Time { return at }

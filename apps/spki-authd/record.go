@@ -14,12 +14,12 @@ import (
 type answer string
 
 const (
-	answerYes     answer = "yes"
-	answerNo      answer = "no"
-	answerRefused answer = "refused"
-	answerUnknown answer = "unauthenticated"
-	answerLimited answer = "limited"
-	answerFailed  answer = "failed"
+	answerYes             answer = "yes"
+	answerNo              answer = "no"
+	answerRefused         answer = "refused"
+	answerUnauthenticated answer = "unauthenticated"
+	answerLimited         answer = "limited"
+	answerFailed          answer = "failed"
 	// To certificates that are left, and never to an inquiry.
 	answerKept  answer = "kept"
 	answerKnown answer = "known"
@@ -90,7 +90,7 @@ func (a answer) status(refused int) int {
 		return http.StatusOK
 	case answerNo:
 		return http.StatusForbidden
-	case answerUnknown:
+	case answerUnauthenticated:
 		return http.StatusUnauthorized
 	case answerRefused:
 		return refused

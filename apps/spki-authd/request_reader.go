@@ -57,7 +57,7 @@ func (r *requestReader) next() (*http.Request, error) {
 }
 
 // peekLines looks at the lines up to the first that is empty, and leaves them to be read. isWhole says whether they all fit in the buffer of `input`, and
-// if so isClear says that none of them is isEmptyLength.
+// if so isClear says that none of them is isEmptyLength. The error is that of the connection, io.EOF if it ends before the empty line.
 func (r *requestReader) peekLines() (isWhole, isClear bool, err error) {
 	// (where the next line begins)
 	begin := 0
@@ -92,7 +92,8 @@ func (r *requestReader) Read(into []byte) (int, error) {
 	return count, nil
 }
 
-// readLines reads the lines up to the first that is empty into r.lines. isClear says that none of them is isEmptyLength.
+// readLines reads the lines up to the first that is empty into r.lines. isClear says that none of them is isEmptyLength. The error is that of the
+// connection, io.EOF if it ends before the empty line.
 func (r *requestReader) readLines() (isClear bool, err error) {
 	r.lines = r.lines[:0]
 	if cap(r.lines) > mostKeptRoom {

@@ -14,8 +14,8 @@ var rulesOfTests = []rule{
 	{Prefix: "/", Methods: map[string]string{"GET": "read", "PUT": "write"}, Request: []string{"files", "{method}", "{path}"}},
 }
 
-// TestRequests compares the requests that methods and paths mean, and the numbers of the rules. nil is for a method that the rule lacks.
-func TestRequests(t *testing.T) {
+// TestRequestsByRules compares the requests that methods and paths mean, and the numbers of the rules. nil is for a method that the rule lacks.
+func TestRequestsByRules(t *testing.T) {
 	for _, row := range []struct {
 		method, path string
 		wanted       []string
@@ -73,7 +73,7 @@ func TestWrongRules(t *testing.T) {
 		"a pattern": {{"*.example", "/", methods, request}}, "doubled": {{"", "//", methods, request}},
 		"behind that for all":          {{"", "/", methods, request}, {"", "/a/", methods, request}},
 		"behind that for all hosts":    {{"", "/a/", methods, request}, {"a.example", "/a/b/", methods, request}},
-		"behind that for all its host": {{"a.example", "/", methods, request}, {"a.example", "/a/", methods, request}},
+		"behind one for all its paths": {{"a.example", "/", methods, request}, {"a.example", "/a/", methods, request}},
 		"twice":                        {{"", "/a/", methods, request}, {"", "/", methods, request}, {"", "/a/", map[string]string{"PUT": "write"}, request}},
 	} {
 		if checkRules(rules) == nil {

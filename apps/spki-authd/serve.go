@@ -89,7 +89,8 @@ func (d *daemon) closeLedger() error {
 	return d.withLedger(d.ledger.close)
 }
 
-// withLedger has the writer of grants call a function between two writes, and returns its error, or errHangs if that does not end in time.
+// withLedger has the writer of grants call a function between two writes, and returns its error. If that does not end in time, it fails with errHangs: then
+// the function may still be running.
 func (d *daemon) withLedger(call func() error) error {
 	result := make(chan error, 1)
 	if !d.granted.callBetweenWrites(func() { result <- call() }) {
@@ -166,7 +167,7 @@ func (d *daemon) reload(allowFewerEnded bool) error {
 	return err
 }
 
-// reopen opens the log of grants again, as after it was renamed, and says how that went by an event.
+// reopen opens the log of grants again, as after it was renamed, and says how that went by an event. It fails as ledger.reopen does, or with errHangs.
 func (d *daemon) reopen() error {
 	err := d.withLedger(d.ledger.reopen)
 	d.logEvent("reopened", err)
@@ -184,7 +185,7 @@ func (d *daemon) statusLine() string {
 }
 
 // logEvent writes an event: what the daemon did, such as `reloaded`, or, if `fault` is not nil, what it did not do because of that. The event has the
-// digests of the lists and ended certificates that are in force now.
+// digests of the lists and of the ended certificates that are in force. That of a list in a store is as of the last reload.
 func (d *daemon) logEvent(action string, fault error) {
 	present := d.keeper.present.Load()
 	message := event{

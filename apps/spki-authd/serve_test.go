@@ -51,7 +51,7 @@ func serveHere(t *testing.T, fields string) *servedSite {
 	here.client = &http.Client{Transport: &http.Transport{MaxIdleConnsPerHost: 16, DialContext: func(ctx context.Context, _, _ string) (net.Conn, error) {
 		return (&net.Dialer{}).DialContext(ctx, "unix", here.socket)
 	}}}
-	waitFor(t, here.config.controlPath())
+	waitForSocket(t, here.config.controlPath())
 	t.Cleanup(func() {
 		here.client.CloseIdleConnections()
 		signals.end <- syscall.SIGTERM
@@ -93,8 +93,8 @@ func TestEndsWithoutDisk(t *testing.T) {
 	}
 }
 
-// waitFor waits until somebody listens at a socket, and ends the test if that takes longer than ten seconds.
-func waitFor(t *testing.T, path string) {
+// waitForSocket waits until somebody listens at a socket, and ends the test if that takes longer than ten seconds.
+func waitForSocket(t *testing.T, path string) {
 	t.Helper()
 	for turn := 0; turn < 1000; turn++ {
 		if connection, err := net.Dial("unix", path); err == nil {
@@ -106,7 +106,7 @@ func waitFor(t *testing.T, path string) {
 	t.Fatal("nobody listens at ", path)
 }
 
-// get asks the daemon over its socket whether Alice may read a target, and returns the status, or 0 after an error.
+// get asks the daemon over its socket whether Alice may read a target, and returns the status. If there is no answer, it reports an error and returns 0.
 func (s *servedSite) get(t *testing.T, target string) int {
 	request, err := http.NewRequest(http.MethodGet, "http://daemon/", nil)
 	if err != nil {
@@ -180,9 +180,9 @@ func TestConnectionsAreBounded(t *testing.T) {
 	}
 }
 
-// TestOtherRequests sends texts that no web server sends. Each gets one line in the log, and an answer of the decider, which is not 200, or none.
+// TestUnusualRequests sends texts that no web server sends. Each gets one line in the log, and an answer of the decider, which is not 200, or none.
 // `long` has more octets than are read for one request, which are twice header_octets.
-func TestOtherRequests(t *testing.T) {
+func TestUnusualRequests(t *testing.T) {
 	s := serveHere(t, `, "limits": {"seconds": 1}`)
 	for name, text := range map[string]string{
 		"OPTIONS *": "OPTIONS * HTTP/1.1\r\nHost: x\r\nConnection: close\r\n\r\n", "OPTIONS * by 1.0": "OPTIONS * HTTP/1.0\r\n\r\n", "no HTTP": "x\r\n\r\n",
@@ -282,6 +282,7 @@ func TestWaitingConnections(t *testing.T) {
 	case octets := <-answered:
 		t.Errorf("answered beside a busy one: %q", octets)
 	case <-time.After(200 * time.Millisecond):
+		// (the daemon waits: an answer takes a few milliseconds)
 	}
 	if s.lines() != 2 {
 		t.Errorf("%d lines", s.lines())
@@ -362,9 +363,9 @@ func (d *recordedDeadline) SetDeadline(until time.Time) error { d.until = until;
 // SetReadDeadline keeps a deadline for reads.
 func (d *recordedDeadline) SetReadDeadline(until time.Time) error { d.until = until; return nil }
 
-// TestDeadlines has an idle connection ended, to make room for a new one or since it was idle for long, while a request comes on it: that request has
-// its whole time.
-func TestDeadlines(t *testing.T) {
+// TestRequestOnEndedConnection has an idle connection ended, to make room for a new one or since it was idle for long, while a request comes on it: that
+// request has its whole time.
+func TestRequestOnEndedConnection(t *testing.T) {
 	for name, ends := range map[string]func(server *connectionServer){
 		"for a new one": (*connectionServer).closeIdle, "after long": func(server *connectionServer) { server.endLate(time.Now().Add(timeIdle + time.Second)) },
 	} {

@@ -114,7 +114,7 @@ func (s *shownSequence) countNotEnded(present *access) (int, error) {
 	return len(s.digests), nil
 }
 
-// markFirst marks the first signatures of a question as valid, as many as `valid`.
+// markFirst marks the first signatures of a question as valid, as many as `valid`. It fails if the question is closed or has fewer.
 func markFirst(opened *guard.Asked, valid int) error {
 	for place := 0; place < valid; place++ {
 		if err := opened.Mark(place); err != nil {

@@ -119,7 +119,7 @@ func TestKeptSequencesAndEndedCertificates(t *testing.T) {
 func TestKeptSequencesAndTime(t *testing.T) {
 	s := newSite(t, "")
 	s.now = func() time.Time { return time.Date(2026, 1, 1, 0, 0, 0, 0, time.UTC) }
-	until := s.alice.certificateUntil(s.bob, prefix("read", "/web/"), "2026-01-01_00:00:00")
+	until := s.alice.certificateUntil(s.bob, prefixTag("read", "/web/"), "2026-01-01_00:00:00")
 	shown := sequence(s.alice.sign(until))
 	s.mustAnswer(t, "in its last second", s.bob, "/web/x", shown, 200)
 	s.now = func() time.Time { return time.Date(2026, 1, 1, 0, 0, 1, 0, time.UTC) }
@@ -129,7 +129,7 @@ func TestKeptSequencesAndTime(t *testing.T) {
 // TestOnlyValidSequencesAreKept shows forged, unreadable and ended certificates, and right ones where `cache` is 0: no sequence is kept.
 func TestOnlyValidSequencesAreKept(t *testing.T) {
 	s := newSite(t, "")
-	asAlice := s.mallory.signAs(s.alice, s.alice.certificate(s.mallory, prefix("read", "/web/"), propagates))
+	asAlice := s.mallory.signAs(s.alice, s.alice.certificate(s.mallory, prefixTag("read", "/web/"), propagates))
 	s.mustAnswer(t, "a forged one", s.mallory, "/web/x", sequence(asAlice), 403)
 	s.mustAnswer(t, "a right one and a forged one", s.mallory, "/web/x", sequence(s.alice.sign(s.toBob), asAlice), 403)
 	s.mustAnswer(t, "no S-expression", s.mallory, "/web/x", "{AAAA}", 400)

@@ -53,7 +53,8 @@ func (s *signatures) check() error {
 	return nil
 }
 
-// newRequestVerifier returns what verifies signed requests by the clock `now`, or nil if the configuration has no signed requests.
+// newRequestVerifier returns what verifies signed requests by the clock `now`, or nil if the configuration has no signed requests. It refuses those that were
+// made before the present time (Start), since their nonces may have been used before.
 func newRequestVerifier(c *config, now func() time.Time) *requestVerifier {
 	if c.Signatures == nil {
 		return nil

@@ -105,6 +105,7 @@ func TestSignedRequests(t *testing.T) {
 			t.Errorf("%s: %d, wanted %d: %+v", row.name, response.StatusCode, row.status, line)
 		}
 	}
+	// (the request of the last row is not signed)
 	if line := s.lastLine(t); line.Proof != "" {
 		t.Error(line)
 	}

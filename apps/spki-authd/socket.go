@@ -17,7 +17,8 @@ import (
 const mostWaiting = 4096
 
 // openSocket opens a Unix socket at a path. Only the daemon's user and root can write to it. The control socket stays so, and for the web server's socket
-// setGroupAndMode sets another group and mode. It removes a socket that an ended daemon has left there.
+// setGroupAndMode sets another group and mode. It removes a socket that an ended daemon has left there. It fails as removeStale does, or if the system
+// refuses the socket.
 func openSocket(path string) (net.Listener, error) {
 	if err := removeStale(path); err != nil {
 		return nil, err

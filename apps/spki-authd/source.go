@@ -18,12 +18,12 @@ import (
 // A source says where the entries of an access list are: in the file at a path, or, if `store` is not nil, in a store in PostgreSQL.
 type source struct {
 	file  string
-	store *storeOf
+	store *storeSettings
 }
 
-// A storeOf has the settings by which the daemon reads a store: a database that `spki-store` makes. apps/spki-store/README.md says what each field
+// A storeSettings has the settings by which the daemon reads a store: a database that `spki-store` makes. apps/spki-store/README.md says what each field
 // means.
-type storeOf struct {
+type storeSettings struct {
 	Host         string `json:"host"`
 	Port         int    `json:"port"`
 	Database     string `json:"database"`
@@ -53,14 +53,14 @@ var (
 	errSource = errors.New(`a list is the path of a file, or {"postgres": {..}}`)
 )
 
-// UnmarshalJSON reads the path of a file, or `{"postgres": {..}}`. It fails with errSource for anything else, and as storeOf.check does for a wrong
+// UnmarshalJSON reads the path of a file, or `{"postgres": {..}}`. It fails with errSource for anything else, and as storeSettings.check does for a wrong
 // setting. `null` is read as an empty path, as if the list were left out.
 func (s *source) UnmarshalJSON(text []byte) error {
 	if json.Unmarshal(text, &s.file) == nil {
 		return nil
 	}
 	var named struct {
-		Postgres *storeOf `json:"postgres"`
+		Postgres *storeSettings `json:"postgres"`
 	}
 	decoder := json.NewDecoder(bytes.NewReader(text))
 	decoder.DisallowUnknownFields()
@@ -83,7 +83,7 @@ func (s *source) name() string {
 }
 
 // check sets the settings that were left out, and returns an error if one is wrong.
-func (s *storeOf) check() error {
+func (s *storeSettings) check() error {
 	setText(&s.Schema, usualSchema)
 	for field, usual := range map[*int]int{&s.Port: usualPort, &s.StaleSeconds: usualStale, &s.Connections: usualConnections} {
 		if *field == 0 {
@@ -110,18 +110,18 @@ func (s *storeOf) check() error {
 }
 
 // isSocket says whether the server is asked at a Unix socket.
-func (s *storeOf) isSocket() bool {
+func (s *storeSettings) isSocket() bool {
 	return strings.HasPrefix(s.Host, "/")
 }
 
 // mostAge returns how old the state of the store may be, so that the daemon still decides by it: `stale_seconds`.
-func (s *storeOf) mostAge() time.Duration {
+func (s *storeSettings) mostAge() time.Duration {
 	return time.Duration(s.StaleSeconds) * time.Second
 }
 
-// settings returns the connection string for the driver: NAME=VALUE for each setting, with spaces between them. A server that is not at a Unix socket must
-// show a certificate for its host that `root` has signed.
-func (s *storeOf) settings() string {
+// connectionString returns the connection string for the driver: NAME=VALUE for each setting, with spaces between them. A server that is not at a Unix
+// socket must show a certificate for its host that `root` has signed.
+func (s *storeSettings) connectionString() string {
 	settings := []string{"sslmode=disable"}
 	if !s.isSocket() {
 		settings = []string{"sslmode=verify-full", "sslrootcert=" + quoteSetting(s.Root)}
@@ -157,6 +157,7 @@ func (s *scope) read(policy guard.Policy, c *config) (*list, error) {
 	}
 	options := s.Source.store
 	if options.opened == nil {
+		// (a store is waited for as long as the line of a grant)
 		reader, err := openReader(options, c.Limits.timeOfRequest()/partOfGrant)
 		if err != nil {
 			return nil, err

@@ -39,7 +39,8 @@ func listenToSignals() signals {
 }
 
 // start reads the configuration and its files, and runs the daemon until a signal ends it. With -test it only reads and tests the files, and prints
-// what decider.test prints. With signed requests the daemon first waits for the next second.
+// what decider.test prints. With signed requests the daemon first waits for the next second. It fails if a file is refused, and as decider.test,
+// daemon.open and daemon.listenAndServe do.
 func start(words words, out, messages io.Writer) error {
 	signals := listenToSignals()
 	debug.SetGCPercent(gcPercent)

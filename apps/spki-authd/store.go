@@ -20,7 +20,7 @@ import (
 // A store has the entries of an access list in a database. A decision needs only those whose principal is the key of the first issuer, or the client's key
 // where no certificate is shown: docs/PROOFS.md, `decided_by_kept`. Entries that were read are kept until a poll reads that they have changed.
 type store struct {
-	options *storeOf
+	options *storeSettings
 	reader  reader
 	open    func(list []byte) (*guard.Guard, error)
 	// A guard without entries. It lists the signatures of a question as the guard of any list does.
@@ -35,7 +35,7 @@ type store struct {
 	// The error of the last poll, or nil.
 	fault error
 	// The lists of entries that were read, by key.
-	kept *keptRows
+	kept *keptLists
 	// The digests of the certificates that have ended early.
 	ended map[digest]struct{}
 	count storeCounts
@@ -116,18 +116,17 @@ var (
 
 // newStore returns a store that was not polled yet. `open` opens a list of entries in canonical form, one behind the other. `now` is the clock. It fails
 // as `open` does.
-func newStore(options *storeOf, reader reader, open func(list []byte) (*guard.Guard, error), now func() time.Time) (*store, error) {
+func newStore(options *storeSettings, reader reader, open func(list []byte) (*guard.Guard, error), now func() time.Time) (*store, error) {
 	empty, err := open(nil)
 	if err != nil {
 		return nil, err
 	}
 	return &store{options: options, reader: reader, open: open, empty: empty, now: now, firsts: newRecentMap[string, string](mostShown),
-		kept: newKeptRows(*options.CacheMiB << 20), ended: map[digest]struct{}{}, fault: errNever}, nil
+		kept: newKeptLists(*options.CacheMiB << 20), ended: map[digest]struct{}{}, fault: errNever}, nil
 }
 
 // list returns a list of the entries that a question can need: one that is kept, or a new one. The caller closes its guard if it isPassing. It fails
-// if the store is stale, also by the time that reading has taken, or cannot be read, and with the library's refusal if the question's sequence is
-// refused.
+// with the library's refusal of the question's sequence, if the store is stale, before the entries are read or after it, or if it cannot be read.
 func (s *store) list(question *guard.Question) (*list, error) {
 	key, err := s.keyOf(question)
 	if err != nil {
@@ -191,7 +190,7 @@ func (s *store) firstKeyIn(question *guard.Question) (first string, err error) {
 
 // read reads the entries for a key from the database, and returns the list of them. `keyDigest` is the key's digest. The list is kept if it is not
 // too large, and if no later state and no other history was polled meanwhile; otherwise it isPassing. It fails with errOlder if the database's state
-// is older than the last poll's, and as reader.rows and listOf do.
+// is older than the last poll's, and as reader.rows and openRows do.
 func (s *store) read(keyDigest digest, key []byte) (*list, error) {
 	before := s.lastPolled()
 	digests := digestsOf(key)
@@ -202,7 +201,7 @@ func (s *store) read(keyDigest digest, key []byte) (*list, error) {
 	if rows.changes < before.changes || rows.beat < before.beat {
 		return nil, errOlder
 	}
-	opened, size, err := s.listOf(rows)
+	opened, size, err := s.openRows(rows)
 	if err != nil {
 		return nil, err
 	}
@@ -213,10 +212,10 @@ func (s *store) read(keyDigest digest, key []byte) (*list, error) {
 	return opened, nil
 }
 
-// listOf returns the list of entries that were read, and how many octets these have together. It fails with errHostile if a row is not exactly one
+// openRows returns the list of entries that were read, and how many octets these have together. It fails with errHostile if a row is not exactly one
 // entry or the library refuses the list, with errMany if they are too many or too long, with guard.ErrMemory, and with errBusy if too many questions
 // are decided at once.
-func (s *store) listOf(rows entryRows) (*list, int, error) {
+func (s *store) openRows(rows entryRows) (*list, int, error) {
 	size := 0
 	for _, text := range rows.texts {
 		if !bytes.HasPrefix(text, []byte("(5:entry")) {

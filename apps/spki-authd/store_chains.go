@@ -34,8 +34,8 @@ func newStoredChains(c *chains, reader reader) *storedChains {
 	return &storedChains{c, reader, newRecentMap[string, readChains](mostCached)}
 }
 
-// currentOf returns the sequences of a key that have not ended, by their ends. What the store has returned is used again for cachedFor, unless the
-// clock goes back. It fails if the store does not answer.
+// currentOf returns the sequences of a key that have not ended, in the order of their ends. What the store has returned is used again for cachedFor,
+// unless the clock goes back. It fails if the store does not answer.
 func (s *storedChains) currentOf(key string, now time.Time) ([]keptChain, error) {
 	cached, isCached := s.cache.get(key)
 	if age := now.Sub(cached.at); !isCached || age < 0 || age > cachedFor {

@@ -42,7 +42,7 @@ type version struct {
 
 // A timeline has the versions of a list whose server can fail. Until a change that failed is settled, two versions may be in force.
 type timeline struct {
-	*rig
+	*changingStore
 	writers []*pool
 	// The place of the writer that is asked, and the last number of an entry.
 	writerAt, number int
@@ -61,7 +61,7 @@ func newTimeline(t *testing.T) *timeline {
 	if os.Getenv(envWriters) == "" {
 		t.Skip("tests/suite/test_store_failures.py names servers")
 	}
-	line := &timeline{rig: newRig(t, failingPatience), end: make(chan struct{}), past: []*version{{map[int]string{}, time.Now(), time.Time{}}}}
+	line := &timeline{changingStore: newChangingStore(t, failingPatience), end: make(chan struct{}), past: []*version{{map[int]string{}, time.Now(), time.Time{}}}}
 	line.store.options.StaleSeconds = failingStale
 	for _, host := range strings.Split(os.Getenv(envWriters), ",") {
 		// (each is asked at its Unix socket, by one connection)
@@ -119,10 +119,10 @@ func copyOf(row []driver.Value) []driver.Value {
 }
 
 // The statement that adds a beat, by the clock of a server. The table `error` says by how much that is wrong, as the test sets it.
-const beats = "UPDATE @.heartbeat SET number = number + 1, moment = clock_timestamp() + (SELECT by FROM @.error)"
+const addBeat = "UPDATE @.heartbeat SET number = number + 1, moment = clock_timestamp() + (SELECT by FROM @.error)"
 
-// change adds an entry or removes one, with a beat, and notes the version. Below 40 entries it adds one, and otherwise it does either at random. If
-// that fails, it is not certain whether it was done: then settle finds out.
+// change adds an entry or removes one, with a beat, and notes the version. Below 40 entries it adds one, so that questions find some, and otherwise it does
+// either at random. If that fails, it is not certain whether it was done: then settle finds out.
 func (l *timeline) change() {
 	last := l.past[len(l.past)-1].entries
 	next, begun := make(map[int]string, len(last)+1), time.Now()
@@ -132,13 +132,13 @@ func (l *timeline) change() {
 	var err error
 	if len(next) < 40 || l.random.Intn(2) == 0 {
 		l.number++
-		next[l.number] = l.entry()
-		_, err = l.transact([]string{beats, "INSERT INTO @.entries (number, text) OVERRIDING SYSTEM VALUE VALUES ($1, $2)"}, int64(l.number), []byte(next[l.number]))
+		next[l.number] = l.randomEntry()
+		_, err = l.transact([]string{addBeat, "INSERT INTO @.entries (number, text) OVERRIDING SYSTEM VALUE VALUES ($1, $2)"}, int64(l.number), []byte(next[l.number]))
 	} else {
 		numbers := numbersOf(next)
 		number := numbers[l.random.Intn(len(numbers))]
 		delete(next, number)
-		_, err = l.transact([]string{beats, "DELETE FROM @.entries WHERE number = $1"}, int64(number))
+		_, err = l.transact([]string{addBeat, "DELETE FROM @.entries WHERE number = $1"}, int64(number))
 	}
 	l.add(&version{next, begun, time.Time{}}, err == nil)
 	if err != nil {
@@ -147,11 +147,11 @@ func (l *timeline) change() {
 	}
 }
 
-// settle waits until a server can be written to, and notes the version in force there, when no other transaction is under way. `begun` is when the
-// change was begun that is not certain.
+// settle waits until a server can be written to, and notes the version in force there, when no other transaction is under way. If the test ends before
+// that, it notes none. `begun` is when the change was begun that is not certain.
 func (l *timeline) settle(begun time.Time) {
 	for {
-		rows, err := l.transact([]string{"SELECT changes FROM @.state FOR UPDATE", beats, "SELECT number, text FROM @.entries"})
+		rows, err := l.transact([]string{"SELECT changes FROM @.state FOR UPDATE", addBeat, "SELECT number, text FROM @.entries"})
 		if err == nil {
 			entries := map[int]string{}
 			// (the first row is that of the first statement, and the beat has none)
@@ -180,8 +180,8 @@ func (l *timeline) add(next *version, isCertain bool) {
 	l.past = append(l.past, next)
 }
 
-// within returns the entries of each version that may have been in force between two moments, the last one first.
-func (l *timeline) within(from, until time.Time) (lists []map[int]string) {
+// listsWithin returns the entries of each version that may have been in force between two moments, the last one first.
+func (l *timeline) listsWithin(from, until time.Time) (lists []map[int]string) {
 	l.mutex.Lock()
 	defer l.mutex.Unlock()
 	for place := len(l.past) - 1; place >= 0; place-- {
@@ -194,8 +194,8 @@ func (l *timeline) within(from, until time.Time) (lists []map[int]string) {
 
 // isRight says whether an answer is that of a version that was in force at most `failingStale` seconds before its question was asked, or since.
 func (l *timeline) isRight(asked time.Time, question guard.Question, answer string) bool {
-	for _, entries := range l.within(asked.Add(-failingStale*time.Second), time.Now()) {
-		if l.wholeAnswer(entries, question) == answer {
+	for _, entries := range l.listsWithin(asked.Add(-failingStale*time.Second), time.Now()) {
+		if l.answerOfWholeList(entries, question) == answer {
 			return true
 		}
 	}
@@ -217,7 +217,7 @@ func (l *timeline) changeUntilEnd() {
 // TestQuestionsUnderFailures asks a store while its entries change and tests/suite/test_store_failures.py has something fail. Each answer must be a
 // failure, or that of the guard of the whole list as of a moment at most `failingStale` seconds before the question. It ends when as many questions are
 // answered as the environment says, and the file of envEnd is there. `counts` counts failures, and other answers by their first two letters: yes, no,
-// refused. At least a twentieth of `wanted` must be yes, as many no, and one a failure.
+// refused. At least a twentieth of `wanted` must be yes, as many no, and one a failure. The test ends as failed if only failures come for five minutes.
 func TestQuestionsUnderFailures(t *testing.T) {
 	l := newTimeline(t)
 	random := rand.New(rand.NewSource(l.random.Int63()))
@@ -227,8 +227,8 @@ func TestQuestionsUnderFailures(t *testing.T) {
 	wanted, _ := strconv.Atoi(os.Getenv(envQuestions))
 	counts, last := map[string]int{}, time.Now()
 	for count := 0; !t.Failed() && (count < wanted || !isThere(os.Getenv(envEnd))); {
-		question, asked := l.question(random), time.Now()
-		answer := l.answer(question)
+		question, asked := l.randomQuestion(random), time.Now()
+		answer := l.answerOfStore(question)
 		if strings.HasPrefix(answer, failed) {
 			counts[failed]++
 			time.Sleep(time.Millisecond)
@@ -304,7 +304,7 @@ func TestTransactClosesStatements(t *testing.T) {
 	conn := new(fakeConn)
 	writer := &pool{patience: time.Second, slots: make(chan *link, 1)}
 	writer.slots <- &link{Conn: conn}
-	l := &timeline{rig: &rig{store: &store{options: &storeOf{Schema: "s"}}}, writers: []*pool{writer}}
+	l := &timeline{changingStore: &changingStore{store: &store{options: &storeSettings{Schema: "s"}}}, writers: []*pool{writer}}
 	for turn := 0; turn < 3; turn++ {
 		if _, err := l.transact([]string{"SELECT 1 FROM @.entries", "SELECT 2"}); err != nil {
 			t.Fatal(err)

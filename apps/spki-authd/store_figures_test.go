@@ -56,7 +56,7 @@ func TestStoreFigures(t *testing.T) {
 // not be polled again.
 func newFigures(t *testing.T, keys int) *figures {
 	const decades = 1 << 30
-	options := &storeOf{Host: os.Getenv(envHost), Database: "postgres", User: "postgres", Schema: os.Getenv(envSchema), StaleSeconds: decades}
+	options := &storeSettings{Host: os.Getenv(envHost), Database: "postgres", User: "postgres", Schema: os.Getenv(envSchema), StaleSeconds: decades}
 	if err := options.check(); err != nil {
 		t.Fatal(err)
 	}
@@ -79,6 +79,7 @@ func newFigures(t *testing.T, keys int) *figures {
 
 // key returns the key with a number, in canonical form, for which bench/store.py has put an entry into the store.
 func key(number int) []byte {
+	// (`k` and 39 digits are 40 octets)
 	return []byte(fmt.Sprintf("(10:public-key(4:test40:k%039d))", number))
 }
 
@@ -96,7 +97,7 @@ func (f *figures) timeOf(number int) time.Duration {
 }
 
 // decide asks the store as the daemon does: a list that another goroutine has dropped meanwhile is asked for again. The question shows no
-// certificates, so no signature is verified.
+// certificates, so no signature is verified. It fails as store.list and the guard do.
 func (f *figures) decide(question guard.Question) (guard.Decision, error) {
 	for {
 		list, err := f.store.list(&question)
@@ -144,6 +145,7 @@ func (f *figures) measureSingle() {
 		f.timeOf(turn % keys)
 	}
 	f.measure("miss", 10_000, notKept)
+	// (any key: its list is kept from the first question on)
 	const sameKey = 7
 	f.timeOf(sameKey)
 	f.measure("hit", 20_000, func() int { return sameKey })

@@ -4,19 +4,19 @@ package main
 
 import ordered "container/list"
 
-// keptRows keeps lists, each with the entries for one key, up to `most` octets: those that were asked for last. The mutex of its store guards it.
-type keptRows struct {
-	// The most octets, and the sum of keptRow.size of what is kept.
+// keptLists keeps lists, each with the entries for one key, up to `most` octets: those that were asked for last. The mutex of its store guards it.
+type keptLists struct {
+	// The most octets, and the sum of keptList.size of what is kept.
 	most, size int
-	// A *keptRow for each key, first the one that was asked for last, and its element by keptRow.name and by each of keptRow.digests.
+	// A *keptList for each key, first the one that was asked for last, and its element by keptList.name and by each of keptList.digests.
 	order    *ordered.List
 	byName   map[digest]*ordered.Element
 	byDigest map[string]*ordered.Element
 }
 
-// A keptRow is what is kept for a key. `name` is the key's digest by SHA-256, and `digests` are all three, by which the database has the entries for
+// A keptList is what is kept for a key. `name` is the key's digest by SHA-256, and `digests` are all three, by which the database has the entries for
 // the key. `size` is about how many octets of memory the list takes.
-type keptRow struct {
+type keptList struct {
 	name    digest
 	digests [][]byte
 	list    *list
@@ -25,41 +25,41 @@ type keptRow struct {
 
 // About how many octets of memory the library takes for each octet of an entry's text, and how many a list without entries takes.
 const (
-	octetsEach = 3
-	octetsRow  = 2048
+	octetsEach   = 3
+	octetsOfList = 2048
 )
 
-// newKeptRows returns an empty keptRows for lists with at most `most` octets together.
-func newKeptRows(most int) *keptRows {
-	return &keptRows{most: most, order: ordered.New(), byName: map[digest]*ordered.Element{}, byDigest: map[string]*ordered.Element{}}
+// newKeptLists returns an empty keptLists for lists with at most `most` octets together.
+func newKeptLists(most int) *keptLists {
+	return &keptLists{most: most, order: ordered.New(), byName: map[digest]*ordered.Element{}, byDigest: map[string]*ordered.Element{}}
 }
 
 // get returns the list that is kept for a key, by the key's digest by SHA-256, or nil. The list is then the one that was asked for last.
-func (k *keptRows) get(name digest) *list {
+func (k *keptLists) get(name digest) *list {
 	element, isKept := k.byName[name]
 	if !isKept {
 		return nil
 	}
 	k.order.MoveToFront(element)
-	return element.Value.(*keptRow).list
+	return element.Value.(*keptList).list
 }
 
 // add keeps the list of a key, unless it alone is too large, and says whether it does. `name` is the key's digest by SHA-256, `digests` are all its digests
 // from digestsOf, and `octets` is the size of its entries' texts. Lists that were not asked for in a long time are removed to make room.
-func (k *keptRows) add(name digest, digests [][]byte, rows *list, octets int) bool {
+func (k *keptLists) add(name digest, digests [][]byte, list *list, octets int) bool {
 	if before, isKept := k.byName[name]; isKept {
 		k.remove(before)
 	}
-	row := &keptRow{name, digests, rows, octetsRow + octetsEach*octets}
-	if row.size > k.most {
+	kept := &keptList{name, digests, list, octetsOfList + octetsEach*octets}
+	if kept.size > k.most {
 		return false
 	}
-	element := k.order.PushFront(row)
+	element := k.order.PushFront(kept)
 	k.byName[name] = element
 	for _, digest := range digests {
 		k.byDigest[string(digest)] = element
 	}
-	k.size += row.size
+	k.size += kept.size
 	for k.size > k.most {
 		k.remove(k.order.Back())
 	}
@@ -67,31 +67,31 @@ func (k *keptRows) add(name digest, digests [][]byte, rows *list, octets int) bo
 }
 
 // drop removes the list of a key, if one is kept. `digest` is any of the key's digests from digestsOf: that which a changed entry has.
-func (k *keptRows) drop(digest []byte) {
+func (k *keptLists) drop(digest []byte) {
 	if element, isKept := k.byDigest[string(digest)]; isKept {
 		k.remove(element)
 	}
 }
 
 // clear removes all lists.
-func (k *keptRows) clear() {
+func (k *keptLists) clear() {
 	for k.order.Len() > 0 {
 		k.remove(k.order.Back())
 	}
 }
 
 // count returns the number of keys whose lists are kept, for the status line.
-func (k *keptRows) count() int {
+func (k *keptLists) count() int {
 	return k.order.Len()
 }
 
 // remove removes a list, and closes its guard: the memory is freed once the questions that the guard was asked are closed.
-func (k *keptRows) remove(element *ordered.Element) {
-	row := k.order.Remove(element).(*keptRow)
-	k.size -= row.size
-	delete(k.byName, row.name)
-	for _, digest := range row.digests {
+func (k *keptLists) remove(element *ordered.Element) {
+	kept := k.order.Remove(element).(*keptList)
+	k.size -= kept.size
+	delete(k.byName, kept.name)
+	for _, digest := range kept.digests {
 		delete(k.byDigest, string(digest))
 	}
-	row.list.guard.Close()
+	kept.list.guard.Close()
 }

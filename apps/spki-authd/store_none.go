@@ -8,6 +8,6 @@ import (
 )
 
 // openReader fails: this daemon is built without the driver for PostgreSQL, of Go's own packages alone. store_postgres.go has the other openReader.
-func openReader(*storeOf, time.Duration) (reader, error) {
+func openReader(*storeSettings, time.Duration) (reader, error) {
 	return nil, errors.New(`this spki-authd reads no list in "postgres": build it with -modfile=postgres.mod -tags spki_postgres (README.md)`)
 }

@@ -1,6 +1,7 @@
 package main
 
-// How a store is polled, what -health and the metrics say of it, and the stamp of a list, by which states of it are compared.
+// How a store is polled, what -health and the metrics say of it, and the stamp of a list, by which states of it are compared. A beat is a mark with the
+// time that the store gets each second.
 
 import (
 	"fmt"
@@ -16,8 +17,8 @@ func (s *store) poll() {
 }
 
 // pollOnce reads what has changed since the last poll. Where the changes are not known, as at the first poll or after a failover to a server that lacks
-// some, or where they are too many, it drops all lists that are kept, and reads all ended certificates again. After an error the state that was polled
-// last stays.
+// some, or where they are too many, it drops all lists that are kept, and reads all ended certificates again. If the database does not answer, or refuses
+// the statement, it returns that error, and the state that was polled last stays.
 func (s *store) pollOnce() error {
 	before, begun := s.lastPolled(), s.now()
 	var result pollResult
@@ -59,7 +60,7 @@ func (s *store) noteResult(result pollResult, begun time.Time, follows bool) {
 	for _, each := range result.changed {
 		s.kept.drop(each)
 	}
-	// (Round(0) drops the monotonic clock: the lag is by the time of day)
+	// (`at` is when a poll first read the present beat. Round(0) drops the monotonic clock: the lag is by the time of day)
 	if s.polled.at.IsZero() || result.beat != s.polled.beat || result.beaten != s.polled.beaten {
 		s.polled.at, s.polled.lag = begun, begun.Round(0).Sub(time.UnixMicro(result.beaten))
 	}

@@ -69,8 +69,8 @@ const (
 
 // openReader returns what reads a store, and waits for each read of an answer no longer than `patience`. It connects when it is asked first. The error says
 // that the settings are wrong.
-func openReader(options *storeOf, patience time.Duration) (reader, error) {
-	connector, err := pq.NewConnector(options.settings())
+func openReader(options *storeSettings, patience time.Duration) (reader, error) {
+	connector, err := pq.NewConnector(options.connectionString())
 	if err != nil {
 		return nil, err
 	}
@@ -79,7 +79,7 @@ func openReader(options *storeOf, patience time.Duration) (reader, error) {
 	for count := 0; count < options.Connections; count++ {
 		opened.slots <- nil
 	}
-	// (one row more than mostRows shows listOf that there are too many. mostChanges+2 is for the change $1 itself, and for one more than a poll takes)
+	// (one row more than mostRows shows openRows that there are too many. mostChanges+2 is for the change $1 itself, and for one more than a poll takes)
 	for ask, text := range map[int]string{
 		askRows: "SELECT " + stateColumns + ", e.number, e.text FROM " + stateTables + " LEFT JOIN LATERAL (" + rowsOf(sha1.Size, 1) + " UNION ALL " +
 			rowsOf(sha256.Size, 2) + " UNION ALL " + rowsOf(sha512.Size, 3) + fmt.Sprintf(" LIMIT %d) e ON true ORDER BY e.number", mostRows+1),
@@ -108,12 +108,12 @@ type dialer struct {
 	patience time.Duration
 }
 
-// Dial connects within the dialer's patience.
+// Dial connects, and fails if that takes longer than the dialer's patience.
 func (d dialer) Dial(network, address string) (net.Conn, error) {
 	return d.DialTimeout(network, address, d.patience)
 }
 
-// DialTimeout connects within the dialer's patience, whatever time the driver gives.
+// DialTimeout connects, and fails if that takes longer than the dialer's patience, whatever time the driver gives.
 func (d dialer) DialTimeout(network, address string, _ time.Duration) (net.Conn, error) {
 	connection, err := net.DialTimeout(network, address, d.patience)
 	if err != nil {
@@ -122,13 +122,13 @@ func (d dialer) DialTimeout(network, address string, _ time.Duration) (net.Conn,
 	return &patient{connection, d.patience}, nil
 }
 
-// renew has each connection closed before it would be used again.
+// renew has each connection closed before it would be used again: take then opens a new one.
 func (p *pool) renew() {
 	p.renewals.Add(1)
 }
 
-// take takes a connection from a slot, or opens a new one. The caller puts it into p.slots again, or nil after closing it. It fails if no slot is free in
-// time, or if it cannot connect; then the slot is free again.
+// take takes a connection from a slot, or opens a new one. The caller puts it into p.slots again, or nil after closing it. It fails if no slot is free
+// within p.patience, or if it cannot connect. Then the caller puts nothing back.
 func (p *pool) take() (*link, error) {
 	timer := time.NewTimer(p.patience)
 	defer timer.Stop()
@@ -154,7 +154,8 @@ func (p *pool) take() (*link, error) {
 }
 
 // ask runs the statement with a number such as askRows and these values of its parameters, and calls a function with each of its rows. The row's values are
-// valid during that call alone. After an error, also one of the function, the connection is closed.
+// valid during that call alone. It fails as take does. It also fails, and closes the connection, if the function fails, or if the server refuses the
+// statement or does not answer within p.patience.
 func (p *pool) ask(number int, use func(row []driver.Value) error, values ...driver.Value) error {
 	link, err := p.take()
 	if err != nil {
@@ -215,14 +216,14 @@ func stateIn(row []driver.Value) (storeState, error) {
 	return storeState{changes: numbers[1], beat: numbers[2], beaten: numbers[3]}, nil
 }
 
-// octetsIn returns a copy of the octets that a column has, or nil for a column of another type.
+// octetsIn returns a copy of the octets that a column has, or none for a column of another type.
 func octetsIn(value driver.Value) []byte {
 	octets, _ := value.([]byte)
 	return append([]byte(nil), octets...)
 }
 
 // rows returns the entries for a key, by its digests by SHA-1, SHA-256 and SHA-512, in this order. Behind the state a row has the number and the text of an
-// entry, or NULL for both if there is none.
+// entry, or NULL for both if there is none. It fails as pool.ask does, or with errVersion.
 func (p *pool) rows(digests [][]byte) (rows entryRows, err error) {
 	hasState := false
 	err = p.ask(askRows, func(row []driver.Value) (err error) {
@@ -247,7 +248,7 @@ func requireState(hasState bool, err error) error {
 
 // changesSince returns the changes after the one with a number, and the time of that one. Behind the state a row has the number, the time, the kind
 // and the digest of a change. The statement also reads the change with that number, and one more than a poll takes, which shows whether there are
-// more.
+// more. It fails as pool.ask does, or with errVersion.
 func (p *pool) changesSince(number int64) (result pollResult, err error) {
 	hasState, count := false, 0
 	err = p.ask(askChangesSince, func(row []driver.Value) (err error) {
@@ -282,12 +283,13 @@ func (r *pollResult) note(kind driver.Value, octets []byte) {
 }
 
 // allEnded returns all ended certificates. Behind the state a row has the time of the last change and the digest of one certificate, or NULL if there
-// is none.
+// is none. It fails as pool.ask does, or with errVersion.
 func (p *pool) allEnded() (result pollResult, err error) {
 	hasState := false
 	err = p.ask(askAllEnded, func(row []driver.Value) (err error) {
 		result.storeState, err = stateIn(row)
 		hasState = true
+		// (it is NULL, and read as 0, before the first change)
 		result.token, _ = row[4].(int64)
 		if octets := octetsIn(row[5]); len(octets) == len(digest{}) {
 			result.ended = append(result.ended, *(*digest)(octets))
@@ -297,7 +299,7 @@ func (p *pool) allEnded() (result pollResult, err error) {
 	return result, requireState(hasState, err)
 }
 
-// chains returns the sequences that are kept for the key with a digest, by their ends.
+// chains returns the sequences that are kept for the key with a digest, in the order of their ends. It fails as pool.ask does.
 func (p *pool) chains(key digest) (chains []keptChain, err error) {
 	err = p.ask(askChains, func(row []driver.Value) error {
 		// (a value that is no number is read as 0, which is 1970: such a sequence has ended)
@@ -309,7 +311,7 @@ func (p *pool) chains(key digest) (chains []keptChain, err error) {
 }
 
 // keep keeps a sequence for the key with a digest, if the limits let it, and returns the answer, which a function of the database gives: `kept`, `known` or
-// `full` if the database is right.
+// `full` if the database is right. It fails as pool.ask does.
 func (p *pool) keep(key digest, chain keptChain, limits *chains) (reply answer, err error) {
 	err = p.ask(askKeep, func(row []driver.Value) error {
 		reply = answer(fmt.Sprint(row[0]))

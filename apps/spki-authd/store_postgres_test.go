@@ -32,11 +32,11 @@ const (
 	envRoot      = "SPKI_STORE_ROOT"
 )
 
-// What rig.answer begins with where the store gives no list, and does not refuse the question.
+// What changingStore.answerOfStore begins with where the store gives no list, and does not refuse the question.
 const failed = "failed: "
 
-// A rig is a store in PostgreSQL, what changes it, and all lists that it had.
-type rig struct {
+// A changingStore is a store in PostgreSQL, what changes it, and all lists that it had.
+type changingStore struct {
 	t      *testing.T
 	store  *store
 	writer *pool
@@ -49,19 +49,19 @@ type rig struct {
 	history []map[int]string
 }
 
-// newRig opens the store that the environment names, which answers within `patience` or fails. Without one the test is skipped.
-func newRig(t *testing.T, patience time.Duration) *rig {
+// newChangingStore opens the store that the environment names, which answers within `patience` or fails. Without one the test is skipped.
+func newChangingStore(t *testing.T, patience time.Duration) *changingStore {
 	t.Helper()
 	host := os.Getenv(envHost)
 	if host == "" {
 		t.Skip("no store: tests/suite/test_store.py names one")
 	}
-	options := &storeOf{Host: host, Root: os.Getenv(envRoot), Database: "postgres", User: "postgres", Schema: os.Getenv(envSchema)}
+	options := &storeSettings{Host: host, Root: os.Getenv(envRoot), Database: "postgres", User: "postgres", Schema: os.Getenv(envSchema)}
 	if err := options.check(); err != nil {
 		t.Fatal(err)
 	}
 	seed, _ := strconv.ParseInt(os.Getenv(envSeed), 10, 64)
-	opened := &rig{t: t, random: rand.New(rand.NewSource(seed)), entries: map[int]string{}}
+	opened := &changingStore{t: t, random: rand.New(rand.NewSource(seed)), entries: map[int]string{}}
 	reader, err := openReader(options, patience)
 	if err != nil {
 		t.Fatal(err)
@@ -96,7 +96,7 @@ func (l *link) forget(number int) error {
 }
 
 // runStatement runs a statement, in which %s is the schema, and returns the first value of its row, or 0 after an error.
-func (r *rig) runStatement(text string, values ...driver.Value) (first int64) {
+func (r *changingStore) runStatement(text string, values ...driver.Value) (first int64) {
 	link, err := r.writer.take()
 	if err != nil {
 		r.t.Error(err)
@@ -116,12 +116,12 @@ func (r *rig) runStatement(text string, values ...driver.Value) (first int64) {
 }
 
 // somebody returns one of the people at random.
-func (r *rig) somebody(random *rand.Rand) person {
+func (r *changingStore) somebody(random *rand.Rand) person {
 	return r.people[random.Intn(len(r.people))]
 }
 
-// principalOf returns a person's key or, half of the time, a hash of it.
-func principalOf(who person, random *rand.Rand) string {
+// randomPrincipal returns a person's key or, half of the time, a hash of it.
+func randomPrincipal(who person, random *rand.Rand) string {
 	// (in this order: by SHA-1, SHA-256 and SHA-512)
 	digests := digestsOf([]byte(who.key))
 	switch random.Intn(6) {
@@ -135,9 +135,9 @@ func principalOf(who person, random *rand.Rand) string {
 	return who.key
 }
 
-// entry returns a random entry: for somebody's key or its hash, or for their name `friends`, and for one of three folders.
-func (r *rig) entry() string {
-	subject, more := principalOf(r.somebody(r.random), r.random), ""
+// randomEntry returns a random entry: for somebody's key or its hash, or for their name `friends`, and for one of three folders.
+func (r *changingStore) randomEntry() string {
+	subject, more := randomPrincipal(r.somebody(r.random), r.random), ""
 	if r.random.Intn(8) == 0 {
 		subject = "(4:name" + subject + "7:friends)"
 	}
@@ -145,18 +145,18 @@ func (r *rig) entry() string {
 		more = propagates
 	}
 	folder := []string{"/web/", "/web/a/", "/web/b/"}[r.random.Intn(3)]
-	return "(5:entry" + subject + more + "(3:tag" + prefix("read", folder) + "))"
+	return "(5:entry" + subject + more + "(3:tag" + prefixTag("read", folder) + "))"
 }
 
-// change adds an entry or removes one, as another client does, and notes the list after it. Below 40 entries it adds one, and otherwise it does
-// either at random.
-func (r *rig) change() {
+// change adds an entry or removes one, as another client does, and notes the list after it. Below 40 entries it adds one, so that questions find some, and
+// otherwise it does either at random.
+func (r *changingStore) change() {
 	next := map[int]string{}
 	for number, text := range r.entries {
 		next[number] = text
 	}
 	if len(next) < 40 || r.random.Intn(2) == 0 {
-		text := r.entry()
+		text := r.randomEntry()
 		next[int(r.runStatement("INSERT INTO %s.entries (text) VALUES ($1) RETURNING number", []byte(text)))] = text
 	} else {
 		numbers := numbersOf(next)
@@ -181,9 +181,9 @@ func numbersOf(entries map[int]string) []int {
 	return numbers
 }
 
-// question returns a random question with up to three certificates, each from one person to the next. About one of 20 certificates is signed by
+// randomQuestion returns a random question with up to three certificates, each from one person to the next. About one of 20 certificates is signed by
 // anybody, and about one of 20 sequences has a value that is no certificate, so that it is refused.
-func (r *rig) question(random *rand.Rand) guard.Question {
+func (r *changingStore) randomQuestion(random *rand.Rand) guard.Question {
 	chain := []person{r.somebody(random)}
 	text := "(8:sequence"
 	for len(chain) < 4 && random.Intn(3) > 0 {
@@ -193,8 +193,8 @@ func (r *rig) question(random *rand.Rand) guard.Question {
 		if random.Intn(20) == 0 {
 			signer = r.somebody(random)
 		}
-		text += signer.sign("(4:cert(6:issuer" + principalOf(from, random) + ")(7:subject" + principalOf(to, random) + ")" + propagates + "(3:tag" +
-			prefix("read", "/web/") + "))")
+		text += signer.sign("(4:cert(6:issuer" + randomPrincipal(from, random) + ")(7:subject" + randomPrincipal(to, random) + ")" + propagates + "(3:tag" +
+			prefixTag("read", "/web/") + "))")
 	}
 	if random.Intn(20) == 0 {
 		text += "(4:cert)"
@@ -202,8 +202,8 @@ func (r *rig) question(random *rand.Rand) guard.Question {
 	return guard.Question{Sequence: []byte(text + ")"), Key: spki.AssumeKey([]byte(chain[len(chain)-1].key)), Words: []string{"files", "read", "/web/a/x"}, Time: time.Now()}
 }
 
-// wholeAnswer returns the answer of a guard with all these entries, which are by their numbers. answerBy says what an answer is.
-func (r *rig) wholeAnswer(entries map[int]string, question guard.Question) string {
+// answerOfWholeList returns the answer of a guard with all these entries, which are by their numbers. answerBy says what an answer is.
+func (r *changingStore) answerOfWholeList(entries map[int]string, question guard.Question) string {
 	text := ""
 	numbers := numbersOf(entries)
 	for _, number := range numbers {
@@ -230,9 +230,9 @@ func answerBy(opened *guard.Guard, numbers []int, question guard.Question) strin
 	return "no"
 }
 
-// answer returns the answer by the list that the store returns for a question: answerBy says what that is. If the store returns none, it is the library's
-// refusal of the question, or `failed` with any other error behind it. If the list was closed meanwhile, it asks again.
-func (r *rig) answer(question guard.Question) string {
+// answerOfStore returns the answer by the list that the store returns for a question: answerBy says what that is. If the store returns none, it is the
+// library's refusal of the question, or `failed` with any other error behind it. If the list was closed meanwhile, it asks again.
+func (r *changingStore) answerOfStore(question guard.Question) string {
 	for {
 		list, err := r.store.list(&question)
 		if errors.Is(err, guard.ErrRefused) {
@@ -252,7 +252,7 @@ func (r *rig) answer(question guard.Question) string {
 // the one that was polled last and the present one. `counts` counts the answers by their first two letters: yes, no, refused. Each must come often
 // enough, and so must answers by entries that were kept (`hits`).
 func TestQuestionsToStore(t *testing.T) {
-	r := newRig(t, time.Minute)
+	r := newChangingStore(t, time.Minute)
 	// (so that the first questions find entries)
 	for count := 0; count < 60; count++ {
 		r.change()
@@ -282,9 +282,9 @@ func TestQuestionsToStore(t *testing.T) {
 				t.Error(err)
 			}
 		}
-		question := r.question(random)
+		question := r.randomQuestion(random)
 		first := r.store.lastPolled().changes
-		answer := r.answer(question)
+		answer := r.answerOfStore(question)
 		counts[answer[:2]]++
 		if !r.wasRightSince(first, question, answer) {
 			t.Errorf("seed %s, question %d: %s: %s", os.Getenv(envSeed), count, answer, hex.EncodeToString(question.Sequence))
@@ -299,31 +299,31 @@ func TestQuestionsToStore(t *testing.T) {
 }
 
 // wasRightSince says whether an answer is that of the list after a change with this number or a later one, also if that is just being made.
-func (r *rig) wasRightSince(first int64, question guard.Question, answer string) bool {
+func (r *changingStore) wasRightSince(first int64, question guard.Question, answer string) bool {
 	for at := first; ; at++ {
-		entries := r.after(at)
+		entries := r.entriesAfter(at)
 		if entries == nil {
 			// (the change that was made while the question was asked is noted in a moment)
 			return r.isRightSoon(at, question, answer)
 		}
-		if r.wholeAnswer(entries, question) == answer {
+		if r.answerOfWholeList(entries, question) == answer {
 			return true
 		}
 	}
 }
 
 // isRightSoon waits until the change with a number is noted, and says whether an answer is that of the list then. It is false if that takes over a minute.
-func (r *rig) isRightSoon(at int64, question guard.Question, answer string) bool {
+func (r *changingStore) isRightSoon(at int64, question guard.Question, answer string) bool {
 	for end := time.Now().Add(time.Minute); time.Now().Before(end); time.Sleep(time.Millisecond) {
-		if entries := r.after(at); entries != nil {
-			return r.wholeAnswer(entries, question) == answer
+		if entries := r.entriesAfter(at); entries != nil {
+			return r.answerOfWholeList(entries, question) == answer
 		}
 	}
 	return false
 }
 
-// after returns the entries after the change with a number, by their numbers, or nil if that change is not noted yet.
-func (r *rig) after(change int64) map[int]string {
+// entriesAfter returns the entries after the change with a number, by their numbers, or nil if that change is not noted yet.
+func (r *changingStore) entriesAfter(change int64) map[int]string {
 	r.mutex.Lock()
 	defer r.mutex.Unlock()
 	if change >= int64(len(r.history)) {

@@ -88,7 +88,7 @@ func TestStoreServed(t *testing.T) {
 		octets/len(times), (after[ofMachine]-before[ofMachine]).Seconds()/took.Seconds())
 }
 
-// populate makes people, puts their entries into the store, and sets `requests`. It waits until the daemons have polled that.
+// populate makes people, puts their entries into the store, and sets `requests`. Then it waits for the time of two polls of the daemons.
 func (l *load) populate() {
 	// (it opens the store: its number of keys is not used)
 	f := newFigures(l.T, 1)
@@ -99,7 +99,7 @@ func (l *load) populate() {
 	entries := pq.ByteaArray{}
 	for number := 0; number < hotPeople+coldPeople; number++ {
 		who := newPerson(l.T)
-		entries = append(entries, []byte("(5:entry"+who.key+propagates+"(3:tag"+prefix("read", "/web/")+"))"))
+		entries = append(entries, []byte("(5:entry"+who.key+propagates+"(3:tag"+prefixTag("read", "/web/")+"))"))
 		l.requests = append(l.requests, "GET /auth HTTP/1.1\r\nHost: d\r\nX-Original-Method: GET\r\nX-Original-URI: /web/x\r\nX-Client-Cert: "+who.escaped()+"\r\n\r\n")
 	}
 	added, err := entries.Value()
@@ -222,7 +222,7 @@ func statOf(path string) []string {
 	return strings.Fields(rest)
 }
 
-// processorTime returns the processor time of processes, and of those that they had started and that have ended.
+// processorTime returns the processor time of processes, and of those that they had started and that have ended. A process that is not there counts as 0.
 func processorTime(processes []string) (sum time.Duration) {
 	for _, each := range processes {
 		// (by proc(5): utime, stime, cutime and cstime)
@@ -233,7 +233,8 @@ func processorTime(processes []string) (sum time.Duration) {
 	return sum
 }
 
-// busyTime returns the time for which the processors of the machine were not idle: all of /proc/stat, but what it has for idle and for waiting.
+// busyTime returns the time for which the processors of the machine were not idle: all of /proc/stat, but what it has for idle and for waiting. It is 0 if
+// that cannot be read.
 func busyTime() time.Duration {
 	text, _ := os.ReadFile("/proc/stat")
 	first, _, _ := strings.Cut(string(text), "\n")
@@ -255,7 +256,7 @@ func ticksIn(fields []string) (sum time.Duration) {
 	return sum
 }
 
-// transferredBy returns how many octets processes have read and written together.
+// transferredBy returns how many octets processes have read and written together. A process that is not there, or of another user, counts as 0.
 func transferredBy(processes []string) (sum int) {
 	for _, each := range processes {
 		text, _ := os.ReadFile("/proc/" + each + "/io")

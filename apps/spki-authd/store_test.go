@@ -138,7 +138,7 @@ func newStored(t testing.TB, fields ...string) *storedSite {
 	open := func(entries []byte) (*guard.Guard, error) {
 		return guard.Open([]byte("(3:acl"+string(entries)+")"), guard.Strict, guard.Limits{})
 	}
-	options := &storeOf{Host: "/run", Database: "d", User: "u"}
+	options := &storeSettings{Host: "/run", Database: "d", User: "u"}
 	if err := options.check(); err != nil {
 		t.Fatal(err)
 	}
@@ -156,7 +156,7 @@ func newStored(t testing.TB, fields ...string) *storedSite {
 
 // entryOf returns an entry by which a person may read and give on everything below /web/.
 func (s *storedSite) entryOf(who person) string {
-	return "(5:entry" + who.key + propagates + "(3:tag" + prefix("read", "/web/") + "))"
+	return "(5:entry" + who.key + propagates + "(3:tag" + prefixTag("read", "/web/") + "))"
 }
 
 // beat adds a beat to the table at the time of the store's clock, and has the store poll. The store keeps the error of the poll, so it is not returned.
@@ -166,8 +166,8 @@ func (s *storedSite) beat() {
 	_ = s.store.pollOnce()
 }
 
-// expect asks whether Alice may read /web/x, and reports an error, which begins with `name`, unless the status is the one that is wanted.
-func (s *storedSite) expect(t *testing.T, name string, wanted int) {
+// expectAlice asks whether Alice may read /web/x, and reports an error, which begins with `name`, unless the status is the one that is wanted.
+func (s *storedSite) expectAlice(t *testing.T, name string, wanted int) {
 	t.Helper()
 	if response := s.askAs(s.alice, "GET", "/web/x", ""); response.StatusCode != wanted {
 		t.Errorf("%s: %d, and not %d: %s", name, response.StatusCode, wanted, s.lastLine(t).Reason)
@@ -179,7 +179,7 @@ func (s *storedSite) expect(t *testing.T, name string, wanted int) {
 func TestStoreDecides(t *testing.T) {
 	s := newStored(t)
 	bobs, carols := s.sequencesShown()
-	s.expect(t, "Alice", 200)
+	s.expectAlice(t, "Alice", 200)
 	if line := s.lastLine(t); line.Entry != 7 || line.List != "change 1" {
 		t.Errorf("entry %d of %q", line.Entry, line.List)
 	}
@@ -196,7 +196,7 @@ func TestStoreDecides(t *testing.T) {
 		}
 	}
 	reads := s.table.reads
-	s.expect(t, "Alice again", 200)
+	s.expectAlice(t, "Alice again", 200)
 	if s.table.reads != reads {
 		t.Error("rows that are kept are read again")
 	}
@@ -212,7 +212,7 @@ func TestStoreChanges(t *testing.T) {
 	s.table.put(9, s.alice.key, s.entryOf(s.alice))
 	s.table.put(7, s.alice.key, "")
 	s.beat()
-	if s.expect(t, "with the other entry", 200); s.lastLine(t).Entry != 9 {
+	if s.expectAlice(t, "with the other entry", 200); s.lastLine(t).Entry != 9 {
 		t.Errorf("entry %d", s.lastLine(t).Entry)
 	}
 	ends := *(*digest)(hexOf(t, digestOfText(s.toBob)))
@@ -223,33 +223,33 @@ func TestStoreChanges(t *testing.T) {
 	}
 	s.table.put(9, s.alice.key, "")
 	s.beat()
-	s.expect(t, "without entries", 401)
+	s.expectAlice(t, "without entries", 401)
 }
 
 // TestStaleStore has the heartbeat stop, lag behind, and be ahead. If the last beat is over ten seconds old, or over one second ahead, the answer is 503,
 // also where entries are kept.
 func TestStaleStore(t *testing.T) {
 	s := newStored(t)
-	s.expect(t, "fresh", 200)
+	s.expectAlice(t, "fresh", 200)
 	s.time = s.time.Add(10*time.Second - time.Millisecond)
-	s.expect(t, "as old as may be", 200)
+	s.expectAlice(t, "as old as may be", 200)
 	s.time = s.time.Add(2 * time.Millisecond)
 	_ = s.store.pollOnce()
-	s.expect(t, "a heartbeat that stopped", 503)
+	s.expectAlice(t, "a heartbeat that stopped", 503)
 	s.beat()
-	s.expect(t, "a new beat", 200)
+	s.expectAlice(t, "a new beat", 200)
 	s.table.fault = errors.New("the server is gone")
 	s.time = s.time.Add(5 * time.Second)
 	_ = s.store.pollOnce()
-	s.expect(t, "kept, without a server, for a while", 200)
+	s.expectAlice(t, "kept, without a server, for a while", 200)
 	s.time = s.time.Add(6 * time.Second)
-	s.expect(t, "without a server", 503)
+	s.expectAlice(t, "without a server", 503)
 	s.table.fault = nil
 	for lag, wanted := range map[time.Duration]int{11 * time.Second: 503, 9 * time.Second: 200, -500 * time.Millisecond: 200, -2 * time.Second: 503} {
 		s.table.state.beat++
 		s.table.state.beaten = s.time.Add(-lag).UnixMicro()
 		_ = s.store.pollOnce()
-		s.expect(t, fmt.Sprintf("a lag of %v", lag), wanted)
+		s.expectAlice(t, fmt.Sprintf("a lag of %v", lag), wanted)
 	}
 }
 
@@ -273,7 +273,7 @@ func TestListBesideStaleStore(t *testing.T) {
 		} else {
 			s.beat()
 		}
-		s.expect(t, "Alice, without certificates", 200)
+		s.expectAlice(t, "Alice, without certificates", 200)
 		if response := s.askAs(s.bob, "GET", "/web/docs/b", bobs); response.StatusCode != wanted {
 			t.Errorf("Bob: %d, and not %d", response.StatusCode, wanted)
 		}
@@ -289,18 +289,18 @@ func TestStoreThatGoesBack(t *testing.T) {
 	s.beat()
 	polled := s.table.state
 	s.table.state = older
-	s.expect(t, "rows of an older state", 503)
+	s.expectAlice(t, "rows of an older state", 503)
 	s.table.state = polled
 	// (the rows that are read have the entry, and before they are kept its removal is polled)
 	s.table.meanwhile = func() { s.table.put(7, s.alice.key, ""); s.beat() }
-	s.expect(t, "rows of the moment before", 200)
-	s.expect(t, "rows after the removal", 401)
+	s.expectAlice(t, "rows of the moment before", 200)
+	s.expectAlice(t, "rows after the removal", 401)
 	// (a server that lost the third change, the removal, and then had another third one, at another time)
 	s.table.changes, s.table.state.changes = s.table.changes[:2], 2
 	s.table.put(7, s.alice.key, s.entryOf(s.alice))
 	s.table.changes[2].token, s.table.state.token = 1000, 1000
 	s.beat()
-	s.expect(t, "another history", 200)
+	s.expectAlice(t, "another history", 200)
 }
 
 // newStoredWithChains returns a storedSite at which clients can leave certificates, which its table keeps.
@@ -308,6 +308,7 @@ func newStoredWithChains(t *testing.T) *storedSite {
 	t.Helper()
 	s := newStored(t, `, "chains": {"postgres": {"host": "/run", "database": "d", "user": "u"}}`+withSignatures)
 	s.table.kept = map[digest][]keptChain{}
+	// (this opens the site's chainKeeper)
 	s.forgetChains()
 	return s
 }
@@ -330,7 +331,7 @@ func (s *storedSite) expectKept(t *testing.T, name string, wanted int, kept stri
 func (s *storedSite) expectLeft(t *testing.T, name string, wanted answer) {
 	t.Helper()
 	bobs, _ := s.sequencesShown()
-	if _, reply := s.leaves(t, s.bob, bobs); reply != wanted {
+	if _, reply := s.leaveAs(t, s.bob, bobs); reply != wanted {
 		t.Errorf("%s: %q", name, reply)
 	}
 }
@@ -357,7 +358,7 @@ func TestStoredChains(t *testing.T) {
 }
 
 // TestStoredChainsThatAreNotRead has the store not answer: the answer to a request that may be granted by certificates in it is 503, and neither yes
-// nor no, and that to certificates that are left is `failed`. So is that where the store gives an answer that it should never give.
+// nor no, and that to certificates that are left is `failed`. They are answered by `failed` too where the store gives an answer that it should never give.
 func TestStoredChainsThatAreNotRead(t *testing.T) {
 	s := newStoredWithChains(t)
 	s.expectLeft(t, "kept", answerKept)
@@ -379,6 +380,7 @@ func TestStoredChainsThatAreNotRead(t *testing.T) {
 func TestHostileRows(t *testing.T) {
 	s := newStored(t)
 	entry := s.entryOf(s.alice)
+	// (within `(3:acl` and `)` the last two would be two lists, and a list that begins with a version)
 	for _, text := range []string{
 		entry + entry, entry[:len(entry)-1], "", "x", entry + ")", ")" + entry, "(5:entry" + s.alice.key + ")", strings.Repeat(entry, 10_000),
 		entry + ")(3:acl" + entry, "(7:version1:0)" + entry,
@@ -389,7 +391,7 @@ func TestHostileRows(t *testing.T) {
 		if text == "" {
 			wanted = 200
 		}
-		s.expect(t, fmt.Sprintf("%.40q", text), wanted)
+		s.expectAlice(t, fmt.Sprintf("%.40q", text), wanted)
 	}
 }
 
@@ -410,12 +412,12 @@ func TestStoreWithoutMemory(t *testing.T) {
 	s := newStored(t)
 	open := s.store.open
 	s.store.open = func([]byte) (*guard.Guard, error) { return nil, refusedMemory{} }
-	s.expect(t, "without memory", 503)
+	s.expectAlice(t, "without memory", 503)
 	if line := s.lastLine(t); line.Answer != answerFailed || line.Reason != "store: refused Memory" || s.store.countsNow().failures != 1 {
 		t.Errorf("%+v, %+v", line, s.store.countsNow())
 	}
 	s.store.open = open
-	s.expect(t, "with memory", 200)
+	s.expectAlice(t, "with memory", 200)
 }
 
 // TestStoreConfigs reads configurations of stores: two right ones, whose settings for the driver are compared, and wrong ones, each of which is refused.
@@ -428,11 +430,11 @@ func TestStoreConfigs(t *testing.T) {
 	if err != nil {
 		t.Fatal(err)
 	}
-	if settings := config.Source.store; settings.Schema != "spki" || settings.mostAge() != 10*time.Second || !strings.Contains(settings.settings(), "sslmode=disable") {
+	if settings := config.Source.store; settings.Schema != "spki" || settings.mostAge() != 10*time.Second || !strings.Contains(settings.connectionString(), "sslmode=disable") {
 		t.Errorf("%+v", settings)
 	}
 	if config, err = parseConfig([]byte(withStore(`"host": "db", "root": "/a'b", "database": "d", "user": "u"`))); err != nil ||
-		!strings.Contains(config.Source.store.settings(), `sslmode=verify-full sslrootcert='/a\'b'`) {
+		!strings.Contains(config.Source.store.connectionString(), `sslmode=verify-full sslrootcert='/a\'b'`) {
 		t.Errorf("%v", err)
 	}
 	for _, text := range []string{
@@ -447,11 +449,11 @@ func TestStoreConfigs(t *testing.T) {
 	}
 }
 
-// TestKeptRows adds five lists without entries where there is room for three, and asks for the first each time: it stays, and so do the last two.
+// TestKeptLists adds five lists without entries where there is room for three, and asks for the first each time: it stays, and so do the last two.
 // Then it removes one by its digest, and then all.
-func TestKeptRows(t *testing.T) {
+func TestKeptLists(t *testing.T) {
 	s := newStored(t)
-	rows := newKeptRows(3 * octetsRow)
+	lists := newKeptLists(3 * octetsOfList)
 	names := make([]digest, 5)
 	for number := range names {
 		opened, err := s.store.open(nil)
@@ -460,22 +462,22 @@ func TestKeptRows(t *testing.T) {
 		}
 		names[number][0] = byte(number)
 		const octetsOfEntries = 0
-		rows.add(names[number], [][]byte{{byte(number)}}, &list{guard: opened}, octetsOfEntries)
-		rows.get(names[0])
+		lists.add(names[number], [][]byte{{byte(number)}}, &list{guard: opened}, octetsOfEntries)
+		lists.get(names[0])
 	}
 	for number, wanted := range []bool{true, false, false, true, true} {
-		if (rows.get(names[number]) != nil) != wanted {
+		if (lists.get(names[number]) != nil) != wanted {
 			t.Errorf("list %d", number)
 		}
 	}
 	// (the only digest of the list with the number 3)
-	rows.drop([]byte{3})
-	if rows.get(names[3]) != nil || rows.count() != 2 || rows.size != 2*octetsRow || len(rows.byDigest) != 2 {
-		t.Errorf("%d lists of %d octets", rows.count(), rows.size)
+	lists.drop([]byte{3})
+	if lists.get(names[3]) != nil || lists.count() != 2 || lists.size != 2*octetsOfList || len(lists.byDigest) != 2 {
+		t.Errorf("%d lists of %d octets", lists.count(), lists.size)
 	}
-	rows.clear()
-	if rows.count() != 0 || rows.size != 0 || len(rows.byDigest) != 0 {
-		t.Errorf("%d lists of %d octets", rows.count(), rows.size)
+	lists.clear()
+	if lists.count() != 0 || lists.size != 0 || len(lists.byDigest) != 0 {
+		t.Errorf("%d lists of %d octets", lists.count(), lists.size)
 	}
 }
 

@@ -10,8 +10,8 @@ import (
 	"sync/atomic"
 )
 
-// A tlsOf has the files of the daemon's own certificate for TLS, which the web server verifies, in PEM.
-type tlsOf struct {
+// A tlsSettings has the files of the daemon's own certificate for TLS, which the web server verifies, in PEM.
+type tlsSettings struct {
 	Certificate string `json:"certificate"`
 	Key         string `json:"key"`
 	// What the listener shows: what was read last and not refused.
@@ -21,7 +21,7 @@ type tlsOf struct {
 // read reads the certificate and the key, and returns both. `t` is nil for a configuration without TLS: then it returns nil and no error. It fails if
 // others than the owner and the group may use the file of the key, or if the files are no certificate and its key. The listener shows the certificate
 // only after `use`.
-func (t *tlsOf) read() (*tls.Certificate, error) {
+func (t *tlsSettings) read() (*tls.Certificate, error) {
 	if t == nil {
 		return nil, nil
 	}
@@ -48,7 +48,7 @@ func (t *tlsOf) read() (*tls.Certificate, error) {
 }
 
 // use has the listener show a certificate from now on. For a configuration without TLS it does nothing.
-func (t *tlsOf) use(certificate *tls.Certificate) {
+func (t *tlsSettings) use(certificate *tls.Certificate) {
 	if t != nil {
 		t.present.Store(certificate)
 	}
@@ -56,7 +56,7 @@ func (t *tlsOf) use(certificate *tls.Certificate) {
 
 // wrap returns a listener that speaks TLS, 1.2 or later, on the connections of another one. It offers HTTP/1.1 alone, as a requestReader reads no
 // HTTP/2.
-func (t *tlsOf) wrap(listener net.Listener) net.Listener {
+func (t *tlsSettings) wrap(listener net.Listener) net.Listener {
 	present := func(*tls.ClientHelloInfo) (*tls.Certificate, error) { return t.present.Load(), nil }
 	return tls.NewListener(listener, &tls.Config{MinVersion: tls.VersionTLS12, GetCertificate: present, NextProtos: []string{"http/1.1"}})
 }

@@ -46,7 +46,8 @@ func tlsConfig(t *testing.T, who person) string {
 		address, certificate, key, writeFile(t, "secret", strings.Repeat("s", 32)+"\n"), folder, folder, writeFile(t, "acl", list))
 }
 
-// askByTLS asks the daemon of a configuration, as a web server that verifies its certificate, whether a person may read a file. It returns the status.
+// askByTLS asks the daemon of a configuration, as a web server that verifies its certificate, whether a person may read a file. It returns the status, and
+// fails if there is no answer, as where another certificate is shown.
 func askByTLS(config *config, who person) (int, error) {
 	client, err := config.client()
 	if err != nil {
@@ -80,7 +81,7 @@ func TestTLS(t *testing.T) {
 	ended := make(chan int)
 	var out, messages journal
 	go func() { ended <- run([]string{"-config", path}, out.writer(), messages.writer()) }()
-	waitFor(t, config.controlPath())
+	waitForSocket(t, config.controlPath())
 	if status, err := askByTLS(config, alice); status != 200 || err != nil {
 		t.Errorf("%d, %v, %s", status, err, messages.String())
 	}
@@ -172,9 +173,9 @@ func TestListenSettings(t *testing.T) {
 	}
 }
 
-// TestOtherCertificate has the client of -health expect Alice's certificate, where another program shows Mallory's: it fails, and does not send the
-// secret.
-func TestOtherCertificate(t *testing.T) {
+// TestHealthOfOtherCertificate has the client of -health expect Alice's certificate, where another program shows Mallory's: it fails, and does not send
+// the secret.
+func TestHealthOfOtherCertificate(t *testing.T) {
 	alice, mallory := newPerson(t), newPerson(t)
 	config, err := parseConfig([]byte(tlsConfig(t, alice)))
 	if err != nil {

@@ -90,7 +90,7 @@ func TestManyLines(t *testing.T) {
 }
 
 // TestTimeOfLines writes lines by many goroutines, some of them later, to a sink that takes none. Each call fails within its patience, also that
-// whose line is being written, and none before the patience is nearly over: all of them count as failed. A line that waits then is not written. Once
+// whose line is being written, and none before half of the patience is over: all of them count as failed. A line that waits then is not written. Once
 // the sink takes lines, the first line is written, and so are those that come afterwards.
 func TestTimeOfLines(t *testing.T) {
 	const patience, lateLines, linesAfter = time.Second, 64, 100
