@@ -169,8 +169,8 @@ function restore() {
   choose(given?.panel ?? chosen);
 }
 
-/** Fetches `start.json`, fills the page by it, and asks the first question: that of the address, else of the first example. `others` are texts for the
-  * boxes of the other panels. Rejects if `start.json` cannot be fetched. */
+/** Fetches `start.json`, fills the page by it, and asks the first question: that of the address, else of the first example. `others` are texts for
+  * the boxes of the other panels. Rejects if `start.json` cannot be fetched. */
 async function start() {
   const { examples, engine, others, mostOctets } = await (await fetch("start.json")).json();
   limitOctets(mostOctets);

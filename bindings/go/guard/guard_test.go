@@ -264,8 +264,8 @@ func TestVerifiedIsOfItsSequence(t *testing.T) {
 }
 
 // TestMarksAreOfOneQuestion opens three questions: by b; by c, who shows a forged certificate; and by b once more, which is not verified. What is
-// marked for b's first one grants nothing by the two others. At the end two are swapped by value: the marks go with the question, and do not stay with
-// its address.
+// marked for b's first one grants nothing by the two others. At the end two are swapped by value: the marks go with the question, and do not stay
+// with its address.
 func TestMarksAreOfOneQuestion(t *testing.T) {
 	opened, question := openGuard(t, list), questionWith(0)
 	question.Sequence, question.Key = []byte("(sequence "+forgedForC+")"), spki.AssumeKey([]byte("(public-key (test c))"))
