@@ -123,7 +123,7 @@ class GuardDoor:
 
     def fault_of_answer(self, question: GuardQuestion, wanted: tuple[Answer, list[Signed]]) -> str | None:
         """What is wrong with the answer to a question, with what the library says of a decision, or with the listed signatures. None if nothing is.
-        `wanted` is what `model_answer` returns."""
+        `wanted` is what `model_answer` returns. Signatures are not compared if a call is misuse, of which the model lists none."""
         handle, asked = c_void_p(), c_void_p()
         self.truths = ()
         try:
@@ -177,7 +177,7 @@ class GuardDoor:
         listed = self.signatures(asked)
         if odd in guard.MARKED:
             past, _, no_question = guard.MARKED
-            marked = len(listed) if odd == past else NEAR_MOST + len(listed)
+            marked = len(listed) if odd == past else NEAR_MOST + len(listed)  # (the place behind the last, or one near 2^64)
             return (self.mark(None if odd == no_question else asked, marked), b""), listed
         self.mark_valid(question, asked, listed)
         answered = self.answer(question, None if odd == "no opened question" else asked)

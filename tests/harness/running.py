@@ -173,8 +173,8 @@ def parts_of(tests: Iterable[unittest.TestCase]) -> list[tuple[str, list[unittes
 
 
 def print_faults(outcome: Outcome, command: str) -> None:
-    """Prints what failed in a part, with the end of what its tests wrote, each up to FAULT_LENGTH; and always its tests' notes. `command`, with the
-    name of a test behind it, runs this test alone."""
+    """Prints what failed in a part, with the end of what its tests wrote, each up to FAULT_LENGTH characters; and always its tests' notes. `command`,
+    with the name of a test behind it, runs this test alone."""
     for name, text in outcome.failed.items():
         print(f"\nFAILED {name}\n{text[:FAULT_LENGTH]}alone  {command} '{name}'\n", flush=True)
     if outcome.failed and outcome.output:

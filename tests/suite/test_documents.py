@@ -68,7 +68,7 @@ def words_of(page):
         yield from (word for word in line.split("#")[0].split() if "/" in word)
 
 
-def bases(page):
+def base_folders(page):
     """The two folders in which a path that a page names may begin: the top of the repository, and the folder of the page."""
     return TOP, os.path.join(TOP, os.path.dirname(page))
 
@@ -83,8 +83,8 @@ def dead_paths(page, names):
             continue
         # (a word with a `/` is a path if it begins with the name of a folder or a file that is here)
         first, is_bare_file = word.split("/")[0], "/" not in word and word.endswith(KINDS)
-        is_path = "/" in word and any(os.path.exists(os.path.join(base, first)) for base in bases(page))
-        is_there = any(glob.glob(os.path.join(base, word)) for base in bases(page))
+        is_path = "/" in word and any(os.path.exists(os.path.join(base, first)) for base in base_folders(page))
+        is_there = any(glob.glob(os.path.join(base, word)) for base in base_folders(page))
         if not is_there and (is_path or is_bare_file and word not in names):
             yield f"the path {word}"
 

@@ -167,7 +167,7 @@ class Service(built.OfLibrary):
                 service.terminate()
                 service.wait()
             errors.seek(0)
-            self.assertNotRegex(errors.read(), rb"lost in|Invalid|uninitialised|ERROR")
+            self.assertNotRegex(errors.read(), rb"lost in|Invalid|uninitialised|ERROR")  # (words of both reports)
         for text in ("(acl (entry (public-key (test a))))", "(acl) (acl)", "(acl)".ljust(1_048_577), ""):
             path = pathlib.Path(self.room, "wrong")
             path.write_text(text, encoding="ascii")

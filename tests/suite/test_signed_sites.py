@@ -14,11 +14,11 @@ PAGE = "/web/index.html"
 
 
 class OfSites(unittest.TestCase):
-    """A web server with a daemon that accepts signed requests. `kind` is the class that starts both."""
+    """A web server with a daemon that accepts signed requests. `kind` is the class that starts both. `second_line` is the status where a request has
+    two lines `Signature`: the daemon refuses it, but nginx 1.22 passes on the first line alone."""
 
     kind: type[web_servers.ServerSite]
     site: web_servers.ServerSite
-    # The answer to a second line of a signature. nginx 1.22 passes on the first one alone.
     second_line = 403
 
     @classmethod

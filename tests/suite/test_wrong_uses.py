@@ -90,7 +90,7 @@ class WrongUses(built.OfLibrary):
         path, lines = self.write_program("wrong.c", shared, wrong)
         self.check_refused(wrong, self.output(*words, "-c", "-O1", "-o", "wrong.o", path, status=1), path, lines)
         path, _ = self.write_program("run.c", shared, others)
-        self.output(*words, "-o", "run", path, "-x", "none", self.library, status=0)
+        self.output(*words, "-o", "run", path, "-x", "none", self.library, status=0)  # (-x none: the library is no source)
         self.check_outcomes(others, self.output("./run", status=0))
 
     @needs.needs("g++")
