@@ -45,7 +45,8 @@ def free_port() -> int:
 
 
 class Site:
-    """nginx and the daemon, both started, with their files in the new folder `room`. `web_servers.py` has other web servers."""
+    """nginx and the daemon, both started, with their files in the new folder `room`. `web_servers.py` has other web servers. nginx listens on `port`.
+    `program` is the path of the daemon, `settings` the environment of commands, and `contexts` has the TLS settings of clients that were made."""
 
     def __init__(self) -> None:
         self.room = tempfile.mkdtemp(prefix="site-")

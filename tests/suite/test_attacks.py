@@ -136,8 +136,7 @@ class Table(unittest.TestCase):
             self.site.start_daemon()
 
     def probe(self, status: int, text: str, *more: str) -> None:
-        """Runs `spki-authd -probe` on the site, with the options `more`. It must end with `status`, write `text` among other lines, and leave no
-        request out."""
+        """Runs `spki-authd -probe` on the site, with the options `more`. It must end with `status`, write `text`, and leave no request out."""
         words = (self.site.program, "-probe", f"https://localhost:{self.site.port}/web/", *more)
         ended, output = output_of(*words, env={**self.site.settings, "SSL_CERT_FILE": self.site.at("ca/ca.crt")}, seconds=served.SECONDS)
         self.assertEqual((ended, text in output), (status, True), output)

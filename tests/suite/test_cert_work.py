@@ -193,8 +193,8 @@ class OfMessages(unittest.TestCase):
     """Messages about a long request or word."""
 
     def test_long_requests(self) -> None:
-        """`lacks` shows only the first 400 octets of a long request. For a set of 900 strings that lacks it there is one message, and not one for
-        each string. The message may have 8 octets for each string of the set, and 1,000 more."""
+        """`lacks` says what a tag lacks, and shows only the first 400 octets of a long request, or returns None if it lacks nothing. For a set of 900
+        strings that lacks it there is one message, which may have 8 octets for each string of the set, and 1,000 more."""
         from spki_cert_tool import tag_words
         long = b"m" * 100_000
         wide: Any = [b"*", b"set", *[b"%03d" % at for at in range(900)]]

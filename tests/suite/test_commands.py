@@ -195,9 +195,9 @@ class OnMachines(built.OfLibrary):
             self.assertEqual(answers, [*(answer.strip("\n") for kind, _, answer in steps if kind == "command"), ""])
         inline = [command.line for command in commands if command.kind == "inline"]
         by_root = [f"({line})" for line in inline if OF_ROOT.fullmatch(line)]  # (in subshells, since some change the folder)
-        blocks = page_commands.indented_blocks(text_of(machine.page)) if machine.blocks else ()
-        by_user = [[f"timeout 2 {line}" if SERVES.fullmatch(line) else line for line in block.splitlines() if not NOT_ON_MACHINES.fullmatch(line)]
-                   for block in blocks]
+        blocks = [block.splitlines() for block in page_commands.indented_blocks(text_of(machine.page))] if machine.blocks else []
+        runnable = [[line for line in lines if not NOT_ON_MACHINES.fullmatch(line)] for lines in blocks]
+        by_user = [[f"timeout 2 {line}" if SERVES.fullmatch(line) else line for line in lines] for lines in runnable]
         by_user += [[line] for line in inline if IN_CLONE.fullmatch(line)]
         if by_root or by_user:
             self.check_statuses(machine, by_root, by_user)

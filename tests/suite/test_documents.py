@@ -58,8 +58,8 @@ def dead_links(page):
             yield f"the heading of the link to {target}"
 
 
-def words_of(page):
-    """Yields the words of a page that may be paths: those in backticks, and in indented lines, before a `#`, those with a `/`."""
+def possible_paths(page):
+    """Yields the words of a page that may be paths: all that are in backticks, and those with a `/` that are in an indented line, before any `#`."""
     text = text_of(page)
     plain = FENCED.sub("", text)
     for quoted in TICKS.findall(plain):
@@ -77,7 +77,7 @@ def dead_paths(page, names):
     """Yields a text for each path that a page names and that is not there. `names` has the bare names of all files. A word without a folder must be
     one of them if it ends as a file does. Left out are names of blocks, MADE_ELSEWHERE, files in out/, and words in capitals, which stand for any."""
     written = {name for _, name, _ in FENCED.findall(text_of(page)) if name}
-    for word in words_of(page):
+    for word in possible_paths(page):
         word = re.sub(r"^(?:\.\./|\./)+", "", word.rstrip(".,;:)"))
         if not PATH.match(word) or "out/" in f"{word}/" or PLACEHOLDER.search(word) or word in MADE_ELSEWHERE | written:
             continue

@@ -129,7 +129,7 @@ class Questions(WithOwnServers):
         """Runs the generated questions of the daemon's tests on the store at `host`: the folder of a server, which has its socket, or its address. A
         second later calls `fail_and_mend`. The questions go on until it returns, and all answers must be right. The list is changed on the one of
         `writers` that can be written to. `before` is a command that runs the questions, as words. `root` is the path of the certificate that TLS
-        trusts, or empty for no TLS. Prints how many answers of each kind there were."""
+        trusts, or empty for no TLS. Prints how many answers of each kind there were. The questions must end within 600 seconds then."""
         end = os.path.join(self.room, "end")
         settings = {**golang.settings(self.library), "SPKI_STORE_HOST": host, "SPKI_STORE_ROOT": root, "SPKI_STORE_SCHEMA": self.schema,
                     "SPKI_STORE_WRITERS": ",".join(each.folder for each in writers), "SPKI_STORE_SEED": str(secrets.randbelow(1 << 32)),

@@ -134,7 +134,7 @@ class WrongUses(built.OfLibrary):
 
     @needs.needs("mypy")
     def test_python_by_types(self) -> None:
-        shared, wrong, others = self.split("python")
+        shared, wrong, _ = self.split("python")
         self.environment["MYPYPATH"] = PYTHON
         path, lines = self.write_program("wrong.py", shared, wrong)
         mypy = ["mypy", "--strict", "--cache-dir", os.devnull, "--no-error-summary", "--follow-imports", "silent"]
@@ -143,4 +143,4 @@ class WrongUses(built.OfLibrary):
     def test_python(self) -> None:
         shared, _, others = self.split("python")
         path, _ = self.write_program("run.py", shared, others)
-        self.check_outcomes(others, self.output(sys.executable, "-W", "ignore", path, status=0))
+        self.check_outcomes(others, self.output(sys.executable, "-W", "ignore", path, status=0))  # (a warning would be in the output)
