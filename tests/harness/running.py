@@ -41,7 +41,7 @@ class Outcome:
 
 
 def module_of(test: unittest.TestCase) -> str:
-    """The module of a test, without the folder. Of one that is skipped as a whole, unittest makes a test that has its name."""
+    """The module of a test, without the folder. For one that is skipped as a whole, unittest makes a test with the module's name."""
     return test.id().rpartition(".")[2] if is_whole_module(test) else type(test).__module__.removeprefix("suite.")
 
 
@@ -144,7 +144,7 @@ def flattened(suite: unittest.TestSuite | unittest.TestCase) -> Iterator[unittes
 
 
 def tests_of(words: list[str], modules: Sequence[str] = ()) -> list[unittest.TestCase]:
-    """The tests of these modules, or of all if none is given. If there are words, only tests whose names have one, or match one with a star."""
+    """The tests of these modules, or of all if none is given. If there are words, only those whose names contain one, or match one with a star."""
     loader = unittest.TestLoader()
     if words:
         loader.testNamePatterns = [word if "*" in word else f"*{word}*" for word in words]

@@ -62,7 +62,7 @@ def program_of(name):
 
 
 def steps_of_manual(page):
-    """Yields the steps of the text of a manual page: those of its blocks without filling, from `.nf` to `.fi`, without escapes."""
+    """Yields the steps of the text of a manual page: those of its blocks from `.nf` to `.fi`, in which escapes become characters."""
     for block in re.findall(r"^\.nf\n(.*?)^\.fi$", page, re.MULTILINE | re.DOTALL):
         yield from steps_of_block(textwrap.dedent(block).replace("\\-", "-").replace("\\(aq", "'").replace("\\(ga", "`"))
 

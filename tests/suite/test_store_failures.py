@@ -127,9 +127,9 @@ class Questions(WithOwnServers):
 
     def ask_while(self, host: str, writers: list[Server], fail_and_mend: Callable[[], None], *before: str, root: str = "") -> None:
         """Runs the generated questions of the daemon's tests on the store at `host`: the folder of a server, which has its socket, or its address. A
-        second later calls `fail_and_mend`. The questions go on until it returns, and all answers must be right. The list is changed on the one of
-        `writers` that can be written to. `before` is a command that runs the questions, as words. `root` is the path of the certificate that TLS
-        trusts, or empty for no TLS. Prints how many answers of each kind there were. The questions must end within 600 seconds then."""
+        second later calls `fail_and_mend`. The questions go on until it returns, and must end within 600 seconds after that. All answers must be
+        right. The list is changed on the one of `writers` that can be written to. `before` is a command that runs the questions, as words. `root` is
+        the path of the certificate that TLS trusts, or empty for no TLS. Prints how many answers of each kind there were."""
         end = os.path.join(self.room, "end")
         settings = {**golang.settings(self.library), "SPKI_STORE_HOST": host, "SPKI_STORE_ROOT": root, "SPKI_STORE_SCHEMA": self.schema,
                     "SPKI_STORE_WRITERS": ",".join(each.folder for each in writers), "SPKI_STORE_SEED": str(secrets.randbelow(1 << 32)),
@@ -175,7 +175,7 @@ class Questions(WithOwnServers):
         self.ask_while(replicas[1].folder, [primary, *replicas], fail_and_mend)
 
     def test_replica_that_lags(self) -> None:
-        """A replica replays nothing for FAILING seconds, and then for as long each the changes of 1, 4, 2 and 0 seconds ago."""
+        """A replica replays no change for FAILING seconds, and then each change with a delay: 1, 4, 2 and 0 seconds, each for FAILING seconds."""
         primary = self.primary()
         replica = self.replica(primary)
 
