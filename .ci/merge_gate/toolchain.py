@@ -36,8 +36,8 @@ def rt_module() -> Any:
     module = sys.modules["rt"] = types.ModuleType("rt")
     module.__file__ = path
     loader.exec_module(module)
-    os.environ.pop(module.rtlib.ALLOW_C, None)
-    module.rtlib.guarded()
+    os.environ.pop(module.rtlib.ALLOW_C, None)  # (no crate may have C)
+    module.rtlib.guarded()  # (ends the checks when this process ends)
     return module
 
 

@@ -41,7 +41,7 @@ class Pages(unittest.TestCase):
         """Each page in apps/spki-authd/servers/ has at most 40 indented lines, to paste, and says how to probe the site and what the server cannot
         promise. The daemon's README names the page."""
         pages = [os.path.join("apps", "spki-authd", "servers", f"{name}.md") for name in
-                 (*(kind.name for kind in web_servers.SERVERS), "traefik", "envoy")]
+                 (*(kind.name for kind in web_servers.SERVERS), "traefik", "envoy")]  # (these two have only a page)
         for page in pages:
             text = text_of(page)
             pasted = [line for line in text.splitlines() if line.startswith("    ")]

@@ -219,7 +219,7 @@ class OfAsk(unittest.TestCase):
         """The list of chains that are found from entries to the key `holder`, and the object that counts steps. `pairs` has the issuer and subject of
         each certificate, `entries` the subject of each entry, and `most` is the bound of steps."""
         from spki_cert_tool import certificates
-        signed = [certificates.Signed(certificates.terms_of(certificate(*pair)), b"", 1) for pair in pairs]
+        signed = [certificates.Signed(certificates.terms_of(certificate(*pair)), signature=b"", number=1) for pair in pairs]
         steps = certificates.Steps(most)
         listed = [certificates.terms_of([b"entry", subject, [b"tag", [b"*"]]]) for subject in entries]
         return list(certificates.chains(listed, signed, certificates.Keys(), holder, steps)), steps

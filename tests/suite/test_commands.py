@@ -123,13 +123,13 @@ class InACopy(built.OfLibrary):
         inputs = os.path.join(self.room, "inputs")
         os.mkdir(inputs)
         # (no command: this makes only what BEFORE makes)
-        self.check_lines(inputs, "help", [])
+        self.check_lines(inputs, "help", lines=[])
         for number, line in enumerate(command.line for command in page_commands.commands_of_help()):
             with self.subTest(line):
                 folder, written = os.path.join(self.room, f"help-{number}"), re.search(r" (?:-o|entry .* --acl) (\S+)", line)
                 shutil.copytree(inputs, folder)
                 before = "mkdir ~/.ssh; ssh-keygen -q -t ed25519 -N '' -f ~/.ssh/id_ed25519" + (f"; rm -f {written[1]}" if written else "")
-                self.check_lines(folder, "", [before, line])
+                self.check_lines(folder, page="", lines=[before, line])  # (without BEFORE, which `inputs` had)
 
 
 # ---- on machines that have what a page names

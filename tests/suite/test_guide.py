@@ -170,7 +170,7 @@ def commands_test(page: str, shell: str) -> Callable[[Pages], None]:
 
 
 def add_pages() -> None:
-    """Adds the tests of each page in each shell."""
+    """Adds the tests of each page: of its files, and of its commands in each shell."""
     for page in PAGES:
         setattr(Pages, f"test_guide:{page}:files", files_test(page))
         for shell in SHELLS:
