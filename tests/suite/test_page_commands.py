@@ -35,7 +35,7 @@ class Lists(unittest.TestCase):
         self.assertEqual(unneeded, [], "these rows of NOT_RUN are about no command: remove them")
 
     def test_the_tests_read_their_pages(self) -> None:
-        """The test that a row of RUN names has the name of its page in its source."""
+        """The module of tests that a row of RUN names has the name of the row's page in its source."""
         for row in RUN:
             with self.subTest(row):
                 self.assertIn(os.path.basename(row.page), text_of(f"tests/suite/{row.test}.py"))
