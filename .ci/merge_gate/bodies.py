@@ -131,4 +131,4 @@ def tried(crate: Any, paths: list[str], over: str) -> Iterator[tuple[bool, str]]
         refused |= {body.path for body in group if any(refuses(crate.name, path, output) for path in body.functions)}
     for path in paths:
         is_refused, why = (True, "") if path in refused else toolchain.verdict_on(crate, path, over)
-        yield is_refused, f"{crate.name}/{os.path.basename(path)[:-5]}: {'refused' if is_refused else f'NOT SHOWN: {why}'}"
+        yield is_refused, f"{crate.name}/{os.path.basename(path).removesuffix('.edit')}: {'refused' if is_refused else f'NOT SHOWN: {why}'}"

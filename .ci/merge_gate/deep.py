@@ -62,7 +62,7 @@ def run_all(counts: Counts) -> None:
             counts.left_out.append(f"{' '.join(words)} (there is no {needs})")
             continue
         output, status = run(words, plan.DEEP_MINUTES)
-        counts.add_log(output, status, has_counts=words[0] == "tests/run")
+        counts.add_log(output, status, has_counts=words[0] == "tests/run")  # (a bench may write no counts)
         seed = next(iter(SEED.findall(output)), seed)
     used = os.times()
     print(f"Last run of `.ci/deep`: commit {commit}, {counts.passed} passed, {counts.failed} failed, {(time.monotonic() - begun) / 60:.0f} minutes "

@@ -36,8 +36,8 @@ def rt_module() -> Any:
     module = sys.modules["rt"] = types.ModuleType("rt")
     module.__file__ = path
     loader.exec_module(module)
-    os.environ.pop(module.rtlib.ALLOW_C, None)
-    module.rtlib.guarded()
+    os.environ.pop(module.rtlib.ALLOW_C, None)  # (no crate may have C)
+    module.rtlib.guarded()  # (ends the checks when this process ends)
     return module
 
 
@@ -66,8 +66,8 @@ def check_of(crate: Any, texts: dict[str, str], only: list[str], over: str) -> s
 
 def verdict_on(crate: Any, path: str, over: str) -> tuple[bool, str]:
     """Whether a crate's contract refuses the edit in the file `path`, and why. Checks the whole crate, beginning with what the folder `over` has."""
-    verdict, said = rt_module().must_fail(crate, path, ONE_JOB, over)
-    return verdict == rt_module().REFUSED and not any(words in said for words in SAYS_LITTLE), said
+    verdict, why = rt_module().must_fail(crate, path, ONE_JOB, over)
+    return verdict == rt_module().REFUSED and not any(words in why for words in SAYS_LITTLE), why
 
 
 def remove_kept_libraries() -> None:

@@ -38,7 +38,7 @@ def mount(folder: str, mib: int) -> None:
 
 
 def unmount(folder: str) -> None:
-    """Waits until no process uses the file system of a folder, and unmounts it."""
+    """Waits until no process uses the file system of a folder, and unmounts it. Raises AssertionError after 600 seconds."""
     waits_for(f"nothing uses {folder}", lambda: subprocess.run(["umount", folder], stderr=subprocess.DEVNULL, check=False).returncode == 0)
 
 
@@ -99,7 +99,7 @@ class Server:
                               text=True, timeout=SECONDS).stdout
 
     def start(self) -> None:
-        """Starts the server, and waits until it answers."""
+        """Starts the server, and waits until it answers. Raises AssertionError if it has ended, or does not answer after 600 seconds."""
         options = [word for name, value in self.settings.items() for word in ("-c", f"{name}={value}")]
         words = [*self.words, program("postgres"), "-D", self.data, "-k", self.folder, *options]
         with open(os.path.join(self.folder, "log"), "ab") as log:
@@ -132,7 +132,7 @@ class Server:
         return f"host={primary.host} user=postgres application_name={os.path.basename(self.folder)}"
 
     def promote(self) -> None:
-        """Makes this replica a primary, and waits until it is."""
+        """Makes this replica a primary, and waits until it is. Raises CalledProcessError if it is not after the 60 seconds of `pg_ctl`."""
         self.run("pg_ctl", "promote", "-D", self.data, "-w")
 
 

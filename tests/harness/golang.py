@@ -21,8 +21,7 @@ def settings(library: str) -> dict[str, str]:
 
 
 def go(folder: str, words: list[str], library: str, stdin: bytes | None = None, **more: str) -> subprocess.CompletedProcess[bytes]:
-    """Runs `go` in a folder on an input, with a static library to link and more variables of the environment. Returns how it ended, also if it
-    failed."""
+    """Runs `go` in a folder on an input, with a static library to link, and `more` of the environment. Returns how it ended, also if it failed."""
     return subprocess.run(["go", *words], cwd=folder, input=stdin, stdout=subprocess.PIPE, stderr=subprocess.PIPE, timeout=SECONDS,
                           env={**settings(library), **more})
 

@@ -62,14 +62,14 @@ def text_of(octets: bytes) -> Text:
     return Text(octets, len(octets))
 
 
-def rows_of(question: GuardQuestion) -> list[cases.Row]:
+def accepted_rows(question: GuardQuestion) -> list[cases.Row]:
     """The rows of a question, `(by KEY (hash sha256 DIGEST) VALUE)`, as the model reads them. The signatures that they name count as valid."""
     return cases.read_rows(forms.read(question.rows))
 
 
 def model_answer(question: GuardQuestion) -> tuple[Answer, list[Signed]]:
     """What the model answers to a question, a status and octets, and the signatures that it lists."""
-    return answer(wish_of(question), question.acl, parts_of(question), rows_of(question), question.policy, question.limits, question.oddity)
+    return answer(wish_of(question), question.acl, parts_of(question), accepted_rows(question), question.policy, question.limits, question.oddity)
 
 
 def wish_of(question: GuardQuestion) -> str:
@@ -123,7 +123,7 @@ class GuardDoor:
 
     def fault_of_answer(self, question: GuardQuestion, wanted: tuple[Answer, list[Signed]]) -> str | None:
         """What is wrong with the answer to a question, with what the library says of a decision, or with the listed signatures. None if nothing is.
-        `wanted` is what `model_answer` returns."""
+        `wanted` is what `model_answer` returns. Signatures are not compared if a call is misuse, of which the model lists none."""
         handle, asked = c_void_p(), c_void_p()
         self.truths = ()
         try:
@@ -177,7 +177,7 @@ class GuardDoor:
         listed = self.signatures(asked)
         if odd in guard.MARKED:
             past, _, no_question = guard.MARKED
-            marked = len(listed) if odd == past else NEAR_MOST + len(listed)
+            marked = len(listed) if odd == past else NEAR_MOST + len(listed)  # (the place behind the last, or one near 2^64)
             return (self.mark(None if odd == no_question else asked, marked), b""), listed
         self.mark_valid(question, asked, listed)
         answered = self.answer(question, None if odd == "no opened question" else asked)
@@ -186,7 +186,7 @@ class GuardDoor:
         return answered, listed
 
     def mark_valid(self, question: GuardQuestion, asked: c_void_p, listed: list[Signed]) -> None:
-        """Marks in `asked` the listed signatures that a row of the question accepts, and the place behind the last: that must change nothing."""
+        """Marks in `asked` the listed signatures that count as valid, and the place behind the last, which must change nothing."""
         for place, is_valid in enumerate([*are_accepted(question, listed), True]):
             if is_valid:
                 self.mark(asked, place)
@@ -298,6 +298,6 @@ def structure_of(question: GuardQuestion) -> Asked:
 
 
 def are_accepted(question: GuardQuestion, listed: list[Signed]) -> list[bool]:
-    """For each listed signature, in order, whether a row of the question accepts it, by its key, the digest of its message and its value."""
-    rows = {(row.key.octets, row.digest, row.value) for row in rows_of(question)}
-    return [(key, hashlib.sha256(message).digest(), value) in rows for key, message, value in listed]
+    """For each listed signature, in order, whether it counts as valid: a row of the question has its key, its message's digest and its value."""
+    accepted = {(row.key.octets, row.digest, row.value) for row in accepted_rows(question)}
+    return [(key, hashlib.sha256(message).digest(), value) in accepted for key, message, value in listed]

@@ -58,7 +58,7 @@ def descriptor_of(text):
         return os.open(file.name, os.O_RDONLY)
 
 
-def ended(child, out=b""):
+def wait_for_end(child, out=b""):
     """Waits for a run, a `subprocess.Popen`, and returns how it ended. It is killed after SECONDS. Its output is `out`, which was read already, and
     what its pipe still has, if it has one."""
     try:
@@ -112,7 +112,7 @@ class Program:
         """Runs a command with a resource, such as `resource.RLIMIT_AS`, limited to `most`, in the unit of setrlimit, and a file as its output."""
         with tempfile.TemporaryFile() as out:
             child = self.start(command, descriptor_of(text), out, preexec_fn=lambda: self.limit(resource_number, most))
-            run = ended(child)
+            run = wait_for_end(child)
             out.seek(0)
             return replace(run, out=out.read())
 
@@ -125,7 +125,7 @@ class Program:
     def redirected(self, command, words):
         """Runs a command by the shell. `words` are the redirections behind the command, such as `>&-`. If none is of the input, that is empty."""
         shell = ["sh", "-c", f'exec "$0" "$1" {words}', self.path, command]
-        return ended(subprocess.Popen(shell, stdin=subprocess.DEVNULL, stdout=subprocess.PIPE, stderr=subprocess.PIPE))
+        return wait_for_end(subprocess.Popen(shell, stdin=subprocess.DEVNULL, stdout=subprocess.PIPE, stderr=subprocess.PIPE))
 
     def reader_gone(self, command, text, taken, dies):
         """Runs a command whose output is closed after `taken` octets, or at its end if there are fewer. `dies`: SIGPIPE, the signal of a closed pipe,
@@ -140,7 +140,7 @@ class Program:
             while len(out) < taken and (piece := os.read(reader, taken - len(out))):
                 out += piece
             os.close(reader)
-        return ended(child, out)
+        return wait_for_end(child, out)
 
     def in_packets(self, command, text):
         """Runs a command that gets one octet at each read, from a pipe in which each octet is a packet. The text must fit into the pipe."""
@@ -149,7 +149,7 @@ class Program:
         for place in range(len(text)):
             os.write(writer, text[place:place + 1])
         os.close(writer)
-        return ended(child)
+        return wait_for_end(child)
 
     def without_waiting(self, command, text):
         """Runs a command on a pipe that does not block: it writes to one that gets full, or if the text is empty reads from one without octets."""
@@ -158,7 +158,7 @@ class Program:
         if text:
             child = self.start(command, descriptor_of(text), writer)
             os.close(writer)
-            return replace(ended(child), out=read_to_end(reader))
-        run = ended(self.start(command, reader, subprocess.PIPE))
+            return replace(wait_for_end(child), out=read_to_end(reader))
+        run = wait_for_end(self.start(command, reader, subprocess.PIPE))
         os.close(writer)
         return run

@@ -139,7 +139,8 @@ def address_here(address: int | None, request: Request, blocks: list[tuple[int, 
 
 
 class Relayed:
-    """In the place of a library that ctypes loads. Each process of this machine that calls it runs the command `words`, `relay.c` by an emulator."""
+    """In the place of a library that ctypes loads. Each process of this machine that calls it runs the command `words`, `relay.c` by an emulator.
+    `process` runs it, and `owner` is the number of the process that has started that, since a fork copies both."""
 
     def __init__(self, words: list[str]) -> None:
         self.words, self.owner = words, 0
@@ -168,10 +169,10 @@ class Relayed:
 
         def number() -> int:
             """The next number from the other machine."""
-            return int(struct.unpack("<Q", exactly(from_other, 8))[0])
+            return int(struct.unpack("<Q", read_exactly(from_other, 8))[0])
 
         returned = number()
-        return returned, [(number(), exactly(from_other, len(octets))) for octets in request.blocks]
+        return returned, [(number(), read_exactly(from_other, len(octets))) for octets in request.blocks]
 
     def fetch(self, listed: Listed) -> None:
         """Copies the texts of a signature from the other machine, by call 0, which copies memory, and sets its addresses to those of the copies."""
@@ -179,7 +180,7 @@ class Relayed:
         for name in ("key", "message", "value", "octets"):
             at, length, request = getattr(listed, name), getattr(listed, f"{name}_length"), Request()
             if at:
-                request.block(bytes(length))
+                request.block(bytes(length))  # (call 0 copies into this block)
                 request.arguments = [(False, at), (False, length)]
                 _, [(_, octets)] = self.relay(0, request)
                 copies.append(ctypes.create_string_buffer(octets))
@@ -197,8 +198,8 @@ class Relayed:
             self.process = None
 
 
-def exactly(pipe: BinaryIO, length: int) -> bytes:
-    """So many octets of a pipe. Raises EOFError if it ends before."""
+def read_exactly(pipe: BinaryIO, length: int) -> bytes:
+    """The next `length` octets of a pipe. Raises EOFError if it ends before."""
     octets = pipe.read(length)
     if len(octets) != length:
         raise EOFError("the process that does the calls has ended")

@@ -41,7 +41,7 @@ class Outcome:
 
 
 def module_of(test: unittest.TestCase) -> str:
-    """The module of a test, without the folder. Of one that is skipped as a whole, unittest makes a test that has its name."""
+    """The module of a test, without the folder. For one that is skipped as a whole, unittest makes a test with the module's name."""
     return test.id().rpartition(".")[2] if is_whole_module(test) else type(test).__module__.removeprefix("suite.")
 
 
@@ -144,7 +144,7 @@ def flattened(suite: unittest.TestSuite | unittest.TestCase) -> Iterator[unittes
 
 
 def tests_of(words: list[str], modules: Sequence[str] = ()) -> list[unittest.TestCase]:
-    """The tests of these modules, or of all if none is given. If there are words, only tests whose names have one, or match one with a star."""
+    """The tests of these modules, or of all if none is given. If there are words, only those whose names contain one, or match one with a star."""
     loader = unittest.TestLoader()
     if words:
         loader.testNamePatterns = [word if "*" in word else f"*{word}*" for word in words]
@@ -173,8 +173,8 @@ def parts_of(tests: Iterable[unittest.TestCase]) -> list[tuple[str, list[unittes
 
 
 def print_faults(outcome: Outcome, command: str) -> None:
-    """Prints what failed in a part, with the end of what its tests wrote, each up to FAULT_LENGTH; and always its tests' notes. `command`, with the
-    name of a test behind it, runs this test alone."""
+    """Prints what failed in a part, with the end of what its tests wrote, each up to FAULT_LENGTH characters; and always its tests' notes. `command`,
+    with the name of a test behind it, runs this test alone."""
     for name, text in outcome.failed.items():
         print(f"\nFAILED {name}\n{text[:FAULT_LENGTH]}alone  {command} '{name}'\n", flush=True)
     if outcome.failed and outcome.output:
@@ -225,8 +225,8 @@ def as_they_end(started: dict[Future, str]) -> Iterator[Future]:
 
 
 def run_all(tests: list[unittest.TestCase], jobs: int, stops_early: bool, command: str) -> list[Outcome]:
-    """Runs tests in `jobs` processes, and prints their outcomes. Returns one for each part. `stops_early`: no part begins after the first failure.
-    `command`, with the name of a test behind it, runs this test alone. A whole module that is skipped has its part here, without a process."""
+    """Runs tests in `jobs` processes, and prints their outcomes. Returns one for each part that began. `stops_early`: none begins after the first
+    failure. `command`, with the name of a test behind it, runs this test alone. A whole module that is skipped has its part here, in no process."""
     parts = parts_of(tests)
     report = Report(parts, command)
     for name, part in parts:

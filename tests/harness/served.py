@@ -17,7 +17,7 @@ from harness.support import TESTS, TOP, waits_for
 
 EXAMPLE = os.path.join(TOP, "examples", "nginx")
 NEEDS = ("nginx", "go", "openssl", "curl", "import cryptography")
-# How long something may take that hangs. No test passes or fails by the clock.
+# The most seconds of a command, and of one read from a server, so that a test ends that would hang.
 SECONDS = 600
 
 
@@ -45,7 +45,8 @@ def free_port() -> int:
 
 
 class Site:
-    """nginx and the daemon, both started, with their files in the new folder `room`. `web_servers.py` has other web servers."""
+    """nginx and the daemon, both started, with their files in the new folder `room`. `web_servers.py` has other web servers. nginx listens on `port`.
+    `program` is the path of the daemon, `settings` the environment of commands, and `contexts` has the TLS settings of clients that were made."""
 
     def __init__(self) -> None:
         self.room = tempfile.mkdtemp(prefix="site-")
@@ -75,7 +76,7 @@ class Site:
             file.write(text)
 
     def sh(self, *words: str) -> str:
-        """Runs a command in the folder. Returns what it writes on both streams. Raises AssertionError, which says that too, if it fails."""
+        """Runs a command in the folder. Returns what it writes on both streams. Raises AssertionError with that if it fails, or TimeoutExpired."""
         done = subprocess.run(words, cwd=self.room, env=self.settings, stdout=subprocess.PIPE, stderr=subprocess.STDOUT, text=True, timeout=SECONDS)
         if done.returncode:
             raise AssertionError(f"{words}: {done.stdout}")
@@ -88,7 +89,7 @@ class Site:
     # ---- the programs
 
     def start_daemon(self) -> None:
-        """Starts the daemon, and waits until it listens."""
+        """Starts the daemon, and waits until it listens. Raises AssertionError if it has ended, or does not listen after 600 seconds."""
         with open(self.at("log/authd.log"), "ab") as log, open(self.at("log/authd-events.log"), "ab") as events:
             self.daemon = subprocess.Popen([self.program, "-config", self.at("etc/authd.json")], stdout=log, stderr=events, cwd=self.room)
         self.write("run/authd.pid", str(self.daemon.pid))
@@ -109,7 +110,7 @@ class Site:
         return ["nginx", "-p", self.room, "-c", "etc/loopback.conf", "-e", "log/error.log", "-g", as_user]
 
     def start_server(self) -> None:
-        """Starts the web server, and waits until it listens."""
+        """Starts the web server, and waits until it listens. Raises AssertionError if it has ended, or does not listen after 600 seconds."""
         with open(self.at("log/server.log"), "ab") as log:
             self.server = subprocess.Popen(self.command(), env=self.settings, cwd=self.room, stdout=log, stderr=log)
         waits_for("the web server listens", self.server_listens)
@@ -135,7 +136,7 @@ class Site:
         return False
 
     def reload(self) -> str:
-        """Has the daemon read its list again, and returns what it writes to its log of events then."""
+        """Has the daemon read its list again. Returns what it writes to its log of events then. AssertionError is raised after 600 s of nothing."""
         before = self.text("log/authd-events.log")
         self.daemon.send_signal(signal.SIGHUP)
         waits_for("the list is read again", lambda: self.text("log/authd-events.log").count("\n") > before.count("\n"))
@@ -169,14 +170,14 @@ class Site:
 
     def answer(self, who: str | None, request: bytes) -> bytes:
         """All that the web server answers to the octets `request`, until it ends the connection. Empty if there is no connection. Where the rate is
-        exceeded (429), the client waits and asks again. `who` names its certificate and key, or is None for none."""
+        exceeded (429), the client asks again each 0.2 seconds, without end. `who` names its certificate and key, or is None for none."""
         while (answer := self.answer_at_once(who, request)).startswith(b"HTTP/1.1 429"):
             time.sleep(0.2)
         return answer
 
     def answer_at_once(self, who: str | None, request: bytes) -> bytes:
         """All that the web server answers to the octets `request`, sent once: also 429, if the rate is exceeded. Empty if there is no connection. If
-        the server breaks it, what came before (OSError is suppressed). `who` names the client's certificate and key, or is None for none."""
+        the server breaks it, or is silent for 600 s, what came before: OSError is suppressed. `who` names certificate and key, None is without."""
         answer = b""
         with contextlib.suppress(OSError), self.connected(who) as client:
             client.sendall(request)

@@ -27,7 +27,7 @@ def bodies_of(paths: Iterable[str]) -> dict[str, list[str]]:
 
 
 def is_called(name: str, body: str) -> bool:
-    """Whether a body calls a function of this name, which may have a type before it."""
+    """Whether a body calls a function of this name, which may have a type before it. The head `fn NAME(` of a function is no call."""
     return re.search(rf"(?<!fn )\b{name.split('::')[-1]}(?:::<.*?>)?\(", body) is not None
 
 

@@ -29,7 +29,7 @@ class ServerSite(served.Site):
     # The server's name in the daemon's configuration, the form in which it sends a client's certificate, and what it needs beside nginx's example.
     name, form = "", "base64-der"
     needs: tuple[str, ...] = ()
-    # The files of the example, and the names in them that are replaced, beside those of all.
+    # The files of the example that the server reads.
     files: tuple[str, ...] = ()
     # Lines of other sites by what they do. `error pages` and `a cache` are columns of the table of attacks.
     sites: dict[str, More] = {}
@@ -292,7 +292,7 @@ class FileServer(socketserver.ThreadingUnixStreamServer):
 
 
 class Impostor(http.server.ThreadingHTTPServer):
-    """In the place of the daemon on a port with TLS: it has its own certificate, grants each request, and keeps the secrets that it gets."""
+    """In the place of the daemon on a port with TLS: it grants each request, and keeps the secrets that it gets. Both arguments are paths."""
 
     def __init__(self, certificate: str, key: str) -> None:
         self.secrets: list[str] = []
@@ -303,7 +303,7 @@ class Impostor(http.server.ThreadingHTTPServer):
         threading.Thread(target=self.serve_forever, daemon=True).start()
 
     def handle_error(self, request: object, client_address: object) -> None:
-        """Says nothing of a web server that does not trust it."""
+        """Prints nothing of an error: a web server that does not trust the certificate breaks the connection."""
 
 
 class ImpostorHandler(Handler):

@@ -41,7 +41,7 @@ class Pages(unittest.TestCase):
         """Each page in apps/spki-authd/servers/ has at most 40 indented lines, to paste, and says how to probe the site and what the server cannot
         promise. The daemon's README names the page."""
         pages = [os.path.join("apps", "spki-authd", "servers", f"{name}.md") for name in
-                 (*(kind.name for kind in web_servers.SERVERS), "traefik", "envoy")]
+                 (*(kind.name for kind in web_servers.SERVERS), "traefik", "envoy")]  # (these two have only a page)
         for page in pages:
             text = text_of(page)
             pasted = [line for line in text.splitlines() if line.startswith("    ")]
@@ -136,8 +136,7 @@ class Table(unittest.TestCase):
             self.site.start_daemon()
 
     def probe(self, status: int, text: str, *more: str) -> None:
-        """Runs `spki-authd -probe` on the site, with the options `more`. It must end with `status`, write `text` among other lines, and leave no
-        request out."""
+        """Runs `spki-authd -probe` on the site, with the options `more`. It must end with `status`, write `text`, and leave no request out."""
         words = (self.site.program, "-probe", f"https://localhost:{self.site.port}/web/", *more)
         ended, output = output_of(*words, env={**self.site.settings, "SSL_CERT_FILE": self.site.at("ca/ca.crt")}, seconds=served.SECONDS)
         self.assertEqual((ended, text in output), (status, True), output)

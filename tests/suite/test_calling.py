@@ -38,7 +38,7 @@ def owner_of(head):
     return re.match(r"(?:impl(?:<.*?>)?(?: \w+ for)?|pub trait) (\w+)", head)[1]
 
 
-def calls_in(source):
+def calls_in_source(source):
     """Yields the public calls of a source, also methods of public traits, as pairs: the type or trait that has it, None for a function; its name."""
     owner, is_trait = None, False
     for line in source.splitlines():
@@ -52,23 +52,23 @@ def calls_in(source):
 
 
 @functools.cache
-def calls_at(crate):
+def calls_in_crate(crate):
     """The public calls of a crate's sources, each as a triple: its file; the type or trait that has it, or None for a function; its name."""
     paths = [os.path.relpath(file, ROOT) for file in glob.glob(os.path.join(ROOT, "crates", crate, "src", "*.rt"))]
-    return [(path, owner, name) for path in paths for owner, name in calls_in(text_of(path))]
+    return [(path, owner, name) for path in paths for owner, name in calls_in_source(text_of(path))]
 
 
-def calls_of(crate, item):
+def calls_of_item(crate, item):
     """Yields the calls that a `pub use` of an item of a crate passes on: those of a type or a trait, in any file, or the function. Each is a triple:
-    its file, its name there, and its name as callers write it. The names are the same here, and `calls` puts modules before the second one."""
-    for path, owner, name in calls_at(crate):
+    its file, its name there, and its name as callers write it. Both names are the same here: `calls_passed_on` puts modules before the second."""
+    for path, owner, name in calls_in_crate(crate):
         if owner == item:
             yield path, f"{owner}::{name}", f"{owner}::{name}"
         elif owner is None and name == item:
             yield path, name, name
 
 
-def calls(crate, module="lib"):
+def calls_passed_on(crate, module="lib"):
     """Yields the calls that a module passes on: what its `pub use` lines name, also of other crates; its own functions, if it is not `lib`; and those
     of its public modules. Each is a triple: its file, its name there, and the name for callers, with a function's module: `laws::one_value`."""
     path = f"crates/{crate}/src/{module}.rt"
@@ -76,13 +76,13 @@ def calls(crate, module="lib"):
     for origin, items in re.findall(r"^pub use ([\w:]+)::(\{[^}]*\}|\w+);", source, re.MULTILINE):
         for item in re.findall(r"\w+", items):
             if origin in CRATES:
-                yield from (call for call in calls(origin) if call[2].split("::")[0] == item)
+                yield from (call for call in calls_passed_on(origin) if call[2].split("::")[0] == item)
             else:
-                yield from calls_of(crate, item)
+                yield from calls_of_item(crate, item)
     if module != "lib":
-        yield from ((path, name, name) for owner, name in calls_in(source) if owner is None)
+        yield from ((path, name, name) for owner, name in calls_in_source(source) if owner is None)
     for inner in re.findall(r"^pub mod (\w+);", source, re.MULTILINE):
-        for file, name, public_name in calls(crate, inner):
+        for file, name, public_name in calls_passed_on(crate, inner):
             yield file, name, public_name if "::" in public_name else f"{inner}::{public_name}"
 
 
@@ -104,7 +104,7 @@ def checks(crate):
         is_there = path.startswith("crates/test_callers/") and f"\n{block}" in text_of(path)
         yield f"the block of {path}", None if is_there else "is not in the file"
     rows = {path_in(crate, path): set(re.findall(r"`([^`]+)`", named)) for path, named in ROW.findall(page)}
-    passed_on = {(path, public_name) for path, _, public_name in calls(crate)}
+    passed_on = {(path, public_name) for path, _, public_name in calls_passed_on(crate)}
     for path, public_name in sorted(passed_on):
         is_there = path in rows and (is_law(public_name) or public_name in rows[path])
         yield f"{path}: {public_name}", None if is_there else "is not on the page"

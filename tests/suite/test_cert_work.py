@@ -193,8 +193,8 @@ class OfMessages(unittest.TestCase):
     """Messages about a long request or word."""
 
     def test_long_requests(self) -> None:
-        """`lacks` shows only the first 400 octets of a long request. For a set of 900 strings that lacks it there is one message, and not one for
-        each string. The message may have 8 octets for each string of the set, and 1,000 more."""
+        """`lacks` says what a tag lacks, and shows only the first 400 octets of a long request, or returns None if it lacks nothing. For a set of 900
+        strings that lacks it there is one message, which may have 8 octets for each string of the set, and 1,000 more."""
         from spki_cert_tool import tag_words
         long = b"m" * 100_000
         wide: Any = [b"*", b"set", *[b"%03d" % at for at in range(900)]]
@@ -219,7 +219,7 @@ class OfAsk(unittest.TestCase):
         """The list of chains that are found from entries to the key `holder`, and the object that counts steps. `pairs` has the issuer and subject of
         each certificate, `entries` the subject of each entry, and `most` is the bound of steps."""
         from spki_cert_tool import certificates
-        signed = [certificates.Signed(certificates.terms_of(certificate(*pair)), b"", 1) for pair in pairs]
+        signed = [certificates.Signed(certificates.terms_of(certificate(*pair)), signature=b"", number=1) for pair in pairs]
         steps = certificates.Steps(most)
         listed = [certificates.terms_of([b"entry", subject, [b"tag", [b"*"]]]) for subject in entries]
         return list(certificates.chains(listed, signed, certificates.Keys(), holder, steps)), steps

@@ -123,13 +123,13 @@ class InACopy(built.OfLibrary):
         inputs = os.path.join(self.room, "inputs")
         os.mkdir(inputs)
         # (no command: this makes only what BEFORE makes)
-        self.check_lines(inputs, "help", [])
+        self.check_lines(inputs, "help", lines=[])
         for number, line in enumerate(command.line for command in page_commands.commands_of_help()):
             with self.subTest(line):
                 folder, written = os.path.join(self.room, f"help-{number}"), re.search(r" (?:-o|entry .* --acl) (\S+)", line)
                 shutil.copytree(inputs, folder)
                 before = "mkdir ~/.ssh; ssh-keygen -q -t ed25519 -N '' -f ~/.ssh/id_ed25519" + (f"; rm -f {written[1]}" if written else "")
-                self.check_lines(folder, "", [before, line])
+                self.check_lines(folder, page="", lines=[before, line])  # (without BEFORE, which `inputs` had)
 
 
 # ---- on machines that have what a page names
@@ -195,9 +195,9 @@ class OnMachines(built.OfLibrary):
             self.assertEqual(answers, [*(answer.strip("\n") for kind, _, answer in steps if kind == "command"), ""])
         inline = [command.line for command in commands if command.kind == "inline"]
         by_root = [f"({line})" for line in inline if OF_ROOT.fullmatch(line)]  # (in subshells, since some change the folder)
-        blocks = page_commands.indented_blocks(text_of(machine.page)) if machine.blocks else ()
-        by_user = [[f"timeout 2 {line}" if SERVES.fullmatch(line) else line for line in block.splitlines() if not NOT_ON_MACHINES.fullmatch(line)]
-                   for block in blocks]
+        blocks = [block.splitlines() for block in page_commands.indented_blocks(text_of(machine.page))] if machine.blocks else []
+        runnable = [[line for line in lines if not NOT_ON_MACHINES.fullmatch(line)] for lines in blocks]
+        by_user = [[f"timeout 2 {line}" if SERVES.fullmatch(line) else line for line in lines] for lines in runnable]
         by_user += [[line] for line in inline if IN_CLONE.fullmatch(line)]
         if by_root or by_user:
             self.check_statuses(machine, by_root, by_user)

@@ -55,8 +55,7 @@ def question(sequence, asker, request=REQUEST, moment=NOON):
 
 
 class RandomMaker:
-    """Makes random entries and questions about KEYS keys. All parts are values: octets, or a list of values. A choice that is listed twice is made
-    twice as often."""
+    """Makes random entries and questions about KEYS keys, of values: octets, or lists of values. What a choice lists twice is twice as frequent."""
 
     def __init__(self, seed):
         self.random = random.Random(seed)

@@ -58,8 +58,8 @@ def dead_links(page):
             yield f"the heading of the link to {target}"
 
 
-def words_of(page):
-    """Yields the words of a page that may be paths: those in backticks, and in indented lines, before a `#`, those with a `/`."""
+def possible_paths(page):
+    """Yields the words of a page that may be paths: all that are in backticks, and those with a `/` that are in an indented line, before any `#`."""
     text = text_of(page)
     plain = FENCED.sub("", text)
     for quoted in TICKS.findall(plain):
@@ -68,7 +68,7 @@ def words_of(page):
         yield from (word for word in line.split("#")[0].split() if "/" in word)
 
 
-def bases(page):
+def base_folders(page):
     """The two folders in which a path that a page names may begin: the top of the repository, and the folder of the page."""
     return TOP, os.path.join(TOP, os.path.dirname(page))
 
@@ -77,14 +77,14 @@ def dead_paths(page, names):
     """Yields a text for each path that a page names and that is not there. `names` has the bare names of all files. A word without a folder must be
     one of them if it ends as a file does. Left out are names of blocks, MADE_ELSEWHERE, files in out/, and words in capitals, which stand for any."""
     written = {name for _, name, _ in FENCED.findall(text_of(page)) if name}
-    for word in words_of(page):
+    for word in possible_paths(page):
         word = re.sub(r"^(?:\.\./|\./)+", "", word.rstrip(".,;:)"))
         if not PATH.match(word) or "out/" in f"{word}/" or PLACEHOLDER.search(word) or word in MADE_ELSEWHERE | written:
             continue
         # (a word with a `/` is a path if it begins with the name of a folder or a file that is here)
         first, is_bare_file = word.split("/")[0], "/" not in word and word.endswith(KINDS)
-        is_path = "/" in word and any(os.path.exists(os.path.join(base, first)) for base in bases(page))
-        is_there = any(glob.glob(os.path.join(base, word)) for base in bases(page))
+        is_path = "/" in word and any(os.path.exists(os.path.join(base, first)) for base in base_folders(page))
+        is_there = any(glob.glob(os.path.join(base, word)) for base in base_folders(page))
         if not is_there and (is_path or is_bare_file and word not in names):
             yield f"the path {word}"
 

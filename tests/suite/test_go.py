@@ -186,7 +186,7 @@ class Daemon:
             file.write(text)
 
     def message(self) -> dict[str, object]:
-        """Waits for the next message on the daemon's standard error, and returns it. Raises ValueError if the daemon has ended."""
+        """Waits, however long, for the next message on the daemon's standard error, and returns it. Raises ValueError if the daemon has ended."""
         assert self.process.stderr is not None
         return dict(json.loads(self.process.stderr.readline()))
 

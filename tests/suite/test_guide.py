@@ -33,7 +33,7 @@ PAGES = ("README.md", "docs/GUIDE.md", "docs/spki.1")
 SHELLS = ("sh", "bash")
 
 
-def commands(text):
+def steps_of_block(text):
     """Yields the steps of a block of commands: for each the word `command`, the command, and what it should write."""
     for part in re.split(r"^\$ ", text, flags=re.MULTILINE)[1:]:
         first, *rest = part.splitlines()
@@ -50,7 +50,7 @@ def steps_of_markdown(page):
         elif kind in ("sexp", "sh", "python") and name:
             yield "file", name, text
         elif kind == "console":
-            yield from commands(text)
+            yield from steps_of_block(text)
         else:
             raise ValueError(f"a block of kind {kind} without a name is neither a file nor commands")
 
@@ -62,9 +62,9 @@ def program_of(name):
 
 
 def steps_of_manual(page):
-    """Yields the steps of the text of a manual page: the commands in its blocks without filling, from `.nf` to `.fi`."""
+    """Yields the steps of the text of a manual page: those of its blocks from `.nf` to `.fi`, in which escapes become characters."""
     for block in re.findall(r"^\.nf\n(.*?)^\.fi$", page, re.MULTILINE | re.DOTALL):
-        yield from commands(textwrap.dedent(block).replace("\\-", "-").replace("\\(aq", "'").replace("\\(ga", "`"))
+        yield from steps_of_block(textwrap.dedent(block).replace("\\-", "-").replace("\\(aq", "'").replace("\\(ga", "`"))
 
 
 def script(steps):
@@ -170,7 +170,7 @@ def commands_test(page: str, shell: str) -> Callable[[Pages], None]:
 
 
 def add_pages() -> None:
-    """Adds the tests of each page in each shell."""
+    """Adds the tests of each page: of its files, and of its commands in each shell."""
     for page in PAGES:
         setattr(Pages, f"test_guide:{page}:files", files_test(page))
         for shell in SHELLS:

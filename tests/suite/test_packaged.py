@@ -125,7 +125,7 @@ class Packages(built.OfLibrary):
         case = pathlib.Path(EXAMPLES, "delegation.sexp").read_bytes()
         self.assertEqual(run(self.inside("spki", "usr", "bin", "spki"), "check", case), (0, b"yes entry 1\n"))
 
-    def test_daemon(self) -> None:
+    def test_version_and_paths_of_daemon(self) -> None:
         """The daemon has the version, and no path of the folder in which it was built."""
         program = self.inside("spki-authd", "usr", "bin", "spki-authd")
         self.assertEqual(output_of(program, "-version"), (0, f"spki-authd {VERSION}\n"))
@@ -164,7 +164,7 @@ class Packages(built.OfLibrary):
                 self.assertEqual(len(lines), 2, output)
                 self.assertEqual([path for line in lines for path in line if not os.path.exists(path)], [])
 
-    def test_python(self) -> None:
+    def test_module_loads_its_library(self) -> None:
         """The module of spki-cert loads the library of its own version, also if `libspki_c.so` is beside it: here a file that is no library."""
         folder = self.root_with(SHARED)
         shutil.copy(self.inside(SHARED, "DEBIAN", "control"), os.path.join(folder, PLACE, "libspki_c.so"))
@@ -174,7 +174,7 @@ class Packages(built.OfLibrary):
         self.assertEqual(output, (0, f"libspki_c.so.{INTERFACE}\n"))
 
     @needs.needs("pkg-config")
-    def test_linked(self) -> None:
+    def test_linking(self) -> None:
         """What is compiled with libspki-dev runs with the package of the shared library, or alone if it is linked with the static one."""
         root = self.root_with("libspki-dev", SHARED)
         linked, settings = os.path.join(root, "linked"), {**os.environ, "PKG_CONFIG_LIBDIR": os.path.join(root, PLACE, "pkgconfig"),

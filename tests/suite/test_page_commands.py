@@ -35,13 +35,13 @@ class Lists(unittest.TestCase):
         self.assertEqual(unneeded, [], "these rows of NOT_RUN are about no command: remove them")
 
     def test_the_tests_read_their_pages(self) -> None:
-        """The test that a row of RUN names has the name of its page in its source."""
+        """The module of tests that a row of RUN names has the name of the row's page in its source."""
         for row in RUN:
             with self.subTest(row):
                 self.assertIn(os.path.basename(row.page), text_of(f"tests/suite/{row.test}.py"))
 
     def test_names(self) -> None:
-        """Where a page has one in backticks, `spki` or `spki-cert` has the command, `spki-cert` the options behind it, and `spki-authd` the flag."""
+        """Of a command in backticks, as `spki-cert sign --by`, `spki` or `spki-cert` has the word, `spki-cert` the options, `spki-authd` the flag."""
         helps: dict[str, str] = {}
         flags = "".join(text_of(path) for path in tracked() if path.startswith("apps/spki-authd/") and path.endswith(".go"))
         for command in self.commands:

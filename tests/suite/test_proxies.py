@@ -48,7 +48,7 @@ class Proxies(unittest.TestCase):
         self.service = self.services[0]
 
     def start(self, words: list[str], text: str) -> None:
-        """Starts a proxy by these words, with this text as its configuration, and waits until it listens. It is ended after the test."""
+        """Starts a proxy by these words, with this configuration, and waits until it listens, up to 600 seconds. It is ended after the test."""
         with open(os.path.join(self.room, "conf"), "w", encoding="ascii") as file:
             file.write(text)
         with open(os.path.join(self.room, "log"), "wb") as log:

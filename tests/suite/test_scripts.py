@@ -42,13 +42,13 @@ class Scripts(unittest.TestCase):
 
     @needs.needs("mypy")
     def test_types(self) -> None:
-        """mypy accepts the types: in groups, since folders have modules of one name, and of each script without a suffix alone."""
+        """mypy accepts the types: in groups, since several folders have a module of the same name, and of each script without a suffix alone."""
         groups: dict[str, list[str]] = {}
         for path in scripts():
             group = path if not path.endswith(".py") else next((folder for folder in APART if path.startswith(f"{folder}/")), "others")
             groups.setdefault(group, []).append(path)
         for name, paths in groups.items():
-            settings = {**os.environ, "MYPYPATH": ":".join([PAGE, *MODULES] if name == PAGE else MODULES)}
+            settings = {**os.environ, "MYPYPATH": ":".join([PAGE, *MODULES] if name == PAGE else MODULES)}  # (PAGE for its own scripts alone)
             with self.subTest(name):
                 words = ["mypy", "--config-file", os.path.join(TESTS, "mypy.ini"), "--cache-dir", os.path.join(TESTS, "out", "mypy"), *paths]
                 done = subprocess.run(words, cwd=TOP, stdout=subprocess.PIPE, stderr=subprocess.STDOUT, text=True, env=settings)

@@ -110,7 +110,7 @@ def proof_requests(story: LastingStory) -> Iterator[tuple[str, Sent, bool]]:
 
 
 def first_line_for(port: int, octets: bytes) -> bytes:
-    """The first line of what the service at a port answers to these octets. It is empty if the service answers nothing or breaks the connection."""
+    """The first line of what the service at a port answers to these octets. Empty if it breaks the connection, or is silent for SECONDS."""
     # (the service may break the connection before it has read all, which raises OSError)
     with socket.create_connection(("127.0.0.1", port), timeout=SECONDS) as client, contextlib.suppress(OSError):
         client.sendall(octets)
@@ -147,9 +147,9 @@ class Service(built.OfLibrary):
         pathlib.Path(cls.path).write_text(cls.story.access_list, encoding="ascii")
 
     def check_service(self, *words: str, **settings: str) -> None:
-        """The service that these words start must grant the requests of `chain_requests` and `proof_requests` that say so, and no others. It must not
-        start on a wrong list, as one of over 1,048,576 octets. No sanitizer nor valgrind may report. `settings` are more environment variables. The
-        words start it up to the path of its list."""
+        """The service that the command `words` starts must grant the requests of `chain_requests` and `proof_requests` that say so, and no others. It
+        must not start on a wrong list, as one of over 1,048,576 octets. No sanitizer nor valgrind may report. `settings` are more environment
+        variables. The path of its list and its name are added to `words`."""
         environment = {**os.environ, **settings}
         with open(os.path.join(self.room, "errors"), "w+b") as errors, subprocess.Popen(
                 [*words, self.path, NAME], stdout=subprocess.PIPE, stderr=errors, env=environment) as service:
@@ -167,7 +167,7 @@ class Service(built.OfLibrary):
                 service.terminate()
                 service.wait()
             errors.seek(0)
-            self.assertNotRegex(errors.read(), rb"lost in|Invalid|uninitialised|ERROR")
+            self.assertNotRegex(errors.read(), rb"lost in|Invalid|uninitialised|ERROR")  # (words of both reports)
         for text in ("(acl (entry (public-key (test a))))", "(acl) (acl)", "(acl)".ljust(1_048_577), ""):
             path = pathlib.Path(self.room, "wrong")
             path.write_text(text, encoding="ascii")

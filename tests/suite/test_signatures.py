@@ -225,7 +225,7 @@ class VerifierInC(unittest.TestCase):
         """With a body that no field announces, as HTTP/2 may send it, the verifier in C answers as that in Python: also a GET needs a digest then."""
         import test_spki_http
         rows: list[Row] = [(name, dataclasses.replace(message, has_body=True), now, None, "") for name, message, now, _, _ in test_spki_http.rows()]
-        wanted = [answer_to(test_spki_http.verifier_at([row[2]]), row[1]) for row in rows]
+        wanted = [answer_by_check(test_spki_http.verifier_at([row[2]]), row[1]) for row in rows]
         self.assertLessEqual({"valid", "body-without-digest"}, set(wanted))
         names, answers = [row[0] for row in rows], self.answers(self.compile("verify_openssl", "-lcrypto"), rows)
         self.assertEqual([*zip(names, answers)], [*zip(names, wanted)])
@@ -239,8 +239,8 @@ class VerifierInC(unittest.TestCase):
         self.check_answers("verify_gcrypt", "-lgcrypt")
 
 
-def answer_to(verifier: Any, message: Any) -> str:
-    """What a verifier in Python says of a request: `valid`, or the name of the refusal."""
+def answer_by_check(verifier: Any, message: Any) -> str:
+    """What `check` of a verifier in Python says of a request: `valid`, or the name of the refusal. `prove` cannot be told of `has_body`."""
     import spki_http
     try:
         verifier.check(message)

@@ -14,11 +14,11 @@ PAGE = "/web/index.html"
 
 
 class OfSites(unittest.TestCase):
-    """A web server with a daemon that accepts signed requests. `kind` is the class that starts both."""
+    """A web server with a daemon that accepts signed requests. `kind` is the class that starts both. `second_line` is the status where a request has
+    two lines `Signature`: the daemon refuses it, but nginx 1.22 passes on the first line alone."""
 
     kind: type[web_servers.ServerSite]
     site: web_servers.ServerSite
-    # The answer to a second line of a signature. nginx 1.22 passes on the first one alone.
     second_line = 403
 
     @classmethod
@@ -45,17 +45,18 @@ class OfSites(unittest.TestCase):
 
     def check_signed(self) -> None:
         """A signed request is granted once, for its own path, method and body, if its key has the right. A certificate of TLS is enough too, but not
-        beside a wrong signature. The status is 403 if a proof or certificate is wrong, and 401 if a right or proof is missing."""
+        beside a wrong signature. The status is 403 if a proof or certificate is wrong, and 401 if a right or proof is missing. Then `check_chain`."""
         ann = self.fields("ann", PAGE)
         self.assertEqual([self.status("GET", PAGE, *ann) for _ in range(2)], [200, 403])
         self.assertIn("nonce-seen", self.site.text("log/authd.log"))
         self.assertEqual(self.status("GET", "/secret/plan.txt", *self.fields("ann", "/secret/plan.txt")), 401)  # (without a right)
         self.assertEqual(self.status("GET", PAGE, *self.fields("eve", PAGE)), 401)  # (without a right)
         self.assertEqual(self.status("GET", PAGE), 401)  # (without a proof)
-        self.assertEqual(self.status("GET", PAGE, *(line for line in self.fields("ann", PAGE) if not line.startswith("X-Spki-Public-Key"))), 403)
+        without_key = [line for line in self.fields("ann", PAGE) if not line.startswith("X-Spki-Public-Key")]
+        self.assertEqual(self.status("GET", PAGE, *without_key), 403)
         self.assertEqual(self.status("GET", "/web/out/main.js", *self.fields("ann", PAGE)), 403)  # (signed for another path)
         self.assertEqual(self.status("HEAD", PAGE, *self.fields("ann", PAGE)), 403)  # (signed for another method)
-        self.assertEqual(self.status("PUT", PAGE, *self.fields("ann", PAGE), body="x"), 403)  # (and without a body)
+        self.assertEqual(self.status("PUT", PAGE, *self.fields("ann", PAGE), body="x"), 403)  # (signed as GET, without a body)
         self.assertEqual(self.status("GET", PAGE, *self.fields("ann", PAGE), "Signature: spki=:AAAA:"), self.second_line)
         self.assertEqual(self.site.status("ann", "GET", PAGE), 200)
         self.assertEqual(self.site.status("ann", "GET", PAGE, "Signature: spki=:AAAA:"), 403)

@@ -126,10 +126,10 @@ class Questions(WithOwnServers):
         golang.go(golang.DAEMON, ["test", *test_store.WITH_DRIVER, "-c", "-o", cls.questions, "."], cls.library).check_returncode()
 
     def ask_while(self, host: str, writers: list[Server], fail_and_mend: Callable[[], None], *before: str, root: str = "") -> None:
-        """Runs the generated questions of the daemon's tests on the store at `host`, a host of libpq. A second later calls `fail_and_mend`. The
-        questions go on until it returns, and all answers must be right. The list is changed on the one of `writers` that can be written to. `before`
-        is a command that runs the questions, as words. `root` is the path of the certificate that TLS trusts, or empty for no TLS. Prints how many
-        answers of each kind there were."""
+        """Runs the generated questions of the daemon's tests on the store at `host`: the folder of a server, which has its socket, or its address. A
+        second later calls `fail_and_mend`. The questions go on until it returns, and must end within 600 seconds after that. All answers must be
+        right. The list is changed on the one of `writers` that can be written to. `before` is a command that runs the questions, as words. `root` is
+        the path of the certificate that TLS trusts, or empty for no TLS. Prints how many answers of each kind there were."""
         end = os.path.join(self.room, "end")
         settings = {**golang.settings(self.library), "SPKI_STORE_HOST": host, "SPKI_STORE_ROOT": root, "SPKI_STORE_SCHEMA": self.schema,
                     "SPKI_STORE_WRITERS": ",".join(each.folder for each in writers), "SPKI_STORE_SEED": str(secrets.randbelow(1 << 32)),
@@ -175,7 +175,7 @@ class Questions(WithOwnServers):
         self.ask_while(replicas[1].folder, [primary, *replicas], fail_and_mend)
 
     def test_replica_that_lags(self) -> None:
-        """A replica replays nothing for FAILING seconds, and then for as long each the changes of 1, 4, 2 and 0 seconds ago."""
+        """A replica replays no change for FAILING seconds, and then each change with a delay: 1, 4, 2 and 0 seconds, each for FAILING seconds."""
         primary = self.primary()
         replica = self.replica(primary)
 
@@ -258,7 +258,7 @@ class Daemons(WithOwnServers):
         root = self.give_certificate(replicas[1])
         self.start_beat(primary.address)
         hosts = ",".join(each.address for each in nodes[:3])
-        self.start_beat(f"host={hosts} user=postgres dbname=postgres target_session_attrs=read-write", *nodes[3].words)
+        self.start_beat(f"host={hosts} user=postgres dbname=postgres target_session_attrs=read-write", *nodes[3].words)  # (to the primary then)
         old, near, far = (self.start_daemon("old", primary), self.start_daemon("near", replicas[0]),
                           self.start_daemon("far", replicas[1], *nodes[3].words, host=nodes[2].address, root=root))
         alice, bob = self.people["alice"], self.people["bob"]
@@ -288,7 +288,7 @@ class Daemons(WithOwnServers):
 
     def check_cut(self, node: networks.Node, who: Person, daemon: StoreDaemon, others: tuple[StoreDaemon, ...]) -> None:
         """While a node is cut from its network, `daemon` must fail to answer a person, and the other daemons must grant the request. Once the node
-        is back, `daemon` must grant it too."""
+        is back, `daemon` must grant it too. Each of its answers must change within 600 seconds."""
         node.cut()
         daemon.wait_for_status(503, who)
         self.assertEqual({each.status(who) for each in others}, {200})
@@ -367,8 +367,8 @@ def octets_received(replica: Server) -> int:
 
 
 def write_until_it_ends(server: Server) -> None:
-    """Writes to a server whose disk is full, until it has no room for its log and ends. Raises AssertionError if it does not end. Each switch begins
-    a new file of the log, if something was logged since the last one, as the number of a transaction is."""
+    """Writes to a server whose disk is full, until it has no room for its log and ends. Raises AssertionError if it does not within 600 seconds. Each
+    switch begins a new file of the log, if something was logged since the last one, as the number of a transaction is."""
     def is_over() -> bool:
         with contextlib.suppress(psycopg.Error):  # (the server that ends breaks the connection)
             execute(server, "SELECT pg_switch_wal()", "SELECT txid_current()")

@@ -65,7 +65,7 @@ def pairs_test(number: int) -> Test:
 
 
 def classes(base: type[built.OfProgram], ending: str = "") -> Iterator[type]:
-    """The classes of tests of a program, derived from `base`. `ending` is the end of their names."""
+    """Yields the classes of tests, derived from `base`: one for each table, `Chains` and `Pairs`, each with `ending` behind its name."""
     tables = {os.path.basename(path).capitalize(): rows_of(path) for path in tables_here()}
     for name, rows in {**tables, "Chains": map(Row._make, chains.rows())}.items():
         tried = (row for row in rows if not (built.IS_ALONE and row.place in SLOW_WITHOUT_PROOFS))

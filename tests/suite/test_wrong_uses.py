@@ -90,7 +90,7 @@ class WrongUses(built.OfLibrary):
         path, lines = self.write_program("wrong.c", shared, wrong)
         self.check_refused(wrong, self.output(*words, "-c", "-O1", "-o", "wrong.o", path, status=1), path, lines)
         path, _ = self.write_program("run.c", shared, others)
-        self.output(*words, "-o", "run", path, "-x", "none", self.library, status=0)
+        self.output(*words, "-o", "run", path, "-x", "none", self.library, status=0)  # (-x none: the library is no source)
         self.check_outcomes(others, self.output("./run", status=0))
 
     @needs.needs("g++")
@@ -134,7 +134,7 @@ class WrongUses(built.OfLibrary):
 
     @needs.needs("mypy")
     def test_python_by_types(self) -> None:
-        shared, wrong, others = self.split("python")
+        shared, wrong, _ = self.split("python")
         self.environment["MYPYPATH"] = PYTHON
         path, lines = self.write_program("wrong.py", shared, wrong)
         mypy = ["mypy", "--strict", "--cache-dir", os.devnull, "--no-error-summary", "--follow-imports", "silent"]
@@ -143,4 +143,4 @@ class WrongUses(built.OfLibrary):
     def test_python(self) -> None:
         shared, _, others = self.split("python")
         path, _ = self.write_program("run.py", shared, others)
-        self.check_outcomes(others, self.output(sys.executable, "-W", "ignore", path, status=0))
+        self.check_outcomes(others, self.output(sys.executable, "-W", "ignore", path, status=0))  # (a warning would be in the output)

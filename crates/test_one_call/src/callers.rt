@@ -52,8 +52,8 @@ fn member(alloc: Global, text: &[u8]) -> Reply {
     }
 }
 
-/// The whole text that `text_from` reads, of at most `most` octets. Err is its fault, which becomes the answer in words unless it is `Memory`. The
-/// client is a reader in memory that gives `text`.
+/// The whole text that `text_from` reads, of at most `most` octets. Err is its fault, which becomes the answer in words unless it is `Memory`
+/// (`false`: it is not). The client is a reader in memory that gives `text`.
 fn whole(alloc: Global, text: &[u8], most: usize) -> Reply {
     let mut client = Metered::new(text);
     match text_from(alloc, &mut client, most) {
@@ -77,7 +77,7 @@ fn narrow_by(alloc: Global, own: &Tag, given: &[u8]) -> Reply {
     of_narrowed(alloc, narrowed(alloc, own, &document.top()))
 }
 
-/// What `narrowed` returned, as an answer. Err is its fault, which becomes the answer in words unless it is `Memory`.
+/// What `narrowed` returned, as an answer. Err is its fault, which becomes the answer in words unless it is `Memory` (`false`: it is not).
 fn of_narrowed(alloc: Global, tag: Result<Tag, NarrowFault>) -> Reply {
     match tag {
         Ok(tag) => answer(alloc, tag),
@@ -195,7 +195,7 @@ fn both(alloc: Global, texts: &[Vec<u8>]) -> Reply {
     of_answered(alloc, decisions)
 }
 
-/// What `answer_both` returned, as an answer. Err is its fault, which becomes the answer in words unless it is `Memory`.
+/// What `answer_both` returned, as an answer. Err is its fault, which becomes the answer in words unless it is `Memory` (`false`: it is not).
 fn of_answered(alloc: Global, decisions: Result<(Decision, Decision), ServiceFault>) -> Reply {
     match decisions {
         Ok(decisions) => answer(alloc, decisions),

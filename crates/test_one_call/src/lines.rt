@@ -25,7 +25,7 @@ pub(crate) fn call(alloc: Global, name: &str, texts: &[Vec<u8>]) -> Option<Reply
     }
 }
 
-/// The intersection of the tags A and B of a text `(intersect A B)`, in canonical form, or the fault if there is none.
+/// The intersection of the tags A and B of a text `(intersect A B)`, in canonical form, or the fault if there is none (`false`: it is not `Memory`).
 fn intersection(alloc: Global, text: &[u8]) -> Reply {
     match intersect(alloc, text) {
         Ok(tag) => answer(alloc, tag),
