@@ -286,8 +286,8 @@ def moment_of(text: str, time_of_day: str = "_00:00:00") -> bytes:
 
 def target_of(path: str, new: bytes, force: bool, edits: bool) -> tuple[str, os.stat_result | None]:
     """The file that a path leads to, and its state before it is written, or None if there is none. `new` are the octets to be written. Raises Refused
-    if the file must not be written. One that the command has read needs `edits`, and only one name: its keys are the command's business. Another one
-    that is there needs `force`, and must be neither a key, or what may be one, nor the file of ended certificates."""
+    if the file must not be written. One that the command has read needs `edits`, and only one name; it may be a key, since the command edits it.
+    Another one that is there needs `force`, and must be neither a key, or what may be one, nor the file of ended certificates."""
     place = os.path.realpath(path)
     try:
         before = os.stat(place)
