@@ -49,15 +49,16 @@ def toolchain(path):
     return module.rtlib
 
 
-def build_over_gate(rt, flags, to):
-    """Builds the proved code as the file `to`, over what `rt ci` left of the libraries below. Returns whether it is built: if false, `rt lib` must
-    build it. It is not tried if these libraries are built already, or if `rt ci` has not left all of them."""
-    crate = next(it for it in rt.crates_below(ROOT) if it.name == "spki_c")
+def build_over_gate(rtlib, flags, to):
+    """Builds the proved code as the file `to`, over what `rt ci` left of the libraries below. `rtlib` is the module of `toolchain`, and `flags` are
+    words of `rt lib`. Returns whether it is built: if false, `rt lib` must build it. It is not tried if these libraries are built already, or if
+    `rt ci` has not left all of them."""
+    crate = next(it for it in rtlib.crates_below(ROOT) if it.name == "spki_c")
     below = crate.below()
     if all(it.is_built() for it in below) or not all(os.path.isdir(it.rlib) for it in below):
         return False
     # (`rt ci` leaves the statements of these libraries without their proofs)
-    rt.Crate.cuts_libraries = True
+    rtlib.Crate.cuts_libraries = True
     return crate.compile(flags, to) == 0
 
 

@@ -235,12 +235,13 @@ static enum spki_status call_asked(const void *with, void *buffer, size_t length
     return args->answers(args->asked, buffer, length, needed);
 }
 
-/* Each of the next two is a call for `answers` of struct asked_args: it returns the status alone. */
+/* For `answers` of struct asked_args: explains an opened question, and returns the status alone. */
 static enum spki_status status_of_explanation(const spki_asked *asked, void *buffer, size_t length, size_t *needed)
 {
     return spki_asked_explain(asked, buffer, length, needed).status;
 }
 
+/* For `answers` of struct asked_args: reduces an opened question, and returns the status alone. */
 static enum spki_status status_of_reduction(const spki_asked *asked, void *buffer, size_t length, size_t *needed)
 {
     return spki_asked_reduce(asked, buffer, length, needed).status;
@@ -359,7 +360,7 @@ static void compare_with_case(struct input *in, const struct parts *parts, const
     }
 }
 
-/* Decides an opened question, for a struct asked_args. Only a yes has an end, `until`: otherwise it is INT64_MIN. */
+/* For `answers` of struct asked_args: decides an opened question. Only a yes has an end, `until`: otherwise it is INT64_MIN. */
 static enum spki_status status_of_decision(const spki_asked *asked, void *buffer, size_t length, size_t *needed)
 {
     const struct spki_decision decision = spki_asked_decide(asked, buffer, length, needed);

@@ -78,8 +78,7 @@ NEARLY = {
         (request a b) (request *) (request (a *))"""),
     b"at": values_of('(at) (at ()) (at [h]"2024-01-01_00:00:00") (at "2024-01-01_24:00:00") (at "2024-01-01_00:00:00" x)'),
     b"policy": values_of("(policy) (policy open) (policy [h]strict) (policy (strict)) (policy strict x) strict"),
-    b"acl": values_of('(acl) (acl (version "1")) (acl (version)) (acl (version ())) (acl x) acl'),
-}
+    b"acl": values_of('(acl) (acl (version "1")) (acl (version)) (acl (version ())) (acl x) acl')}
 # heads that stand once in a case, or that seldom show
 RARE = (b"request", b"request", b"entry", b"do", b"at", b"version")
 # (a member behind the head is read first: so a fault there comes before others)

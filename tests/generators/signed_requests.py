@@ -456,11 +456,11 @@ def changed_keys() -> None:
 
 def other_keys() -> None:
     """Keys other than that of the signature, and keys of odd sizes."""
-    (_, text), (_, value) = signed(GET)
+    (_, signature_input), (_, signature) = signed(GET)
     mallory = in_braces(MALLORY.text)
     small = b"(10:public-key(3:ecc(5:curve7:Ed25519)(5:flags5:eddsa)(1:q32:%s)))" % bytes(32)
     row("a point of small order", "invalid-signature", Request(keys=(in_braces(small),)), [
-        ("Signature-Input", text.replace(hash_of(ALICE.text), hash_of(small))), ("Signature", f"spki=:{in_base64(bytes(64))}:")])
+        ("Signature-Input", signature_input.replace(hash_of(ALICE.text), hash_of(small))), ("Signature", f"spki=:{in_base64(bytes(64))}:")])
     longest = rsa_key_of(3027)
     assert len(in_braces(longest)) == 4094
     row("a key of 4,094 characters", "invalid-signature", Request(keys=(in_braces(longest),), keyid=hash_of(longest), algorithm="rsa-v1_5-sha256"))
@@ -470,7 +470,7 @@ def other_keys() -> None:
     row("another key", "invalid-signature", Request(keys=(mallory,), keyid=hash_of(MALLORY.text)))
     row("another key put in", "other-key", Request(keys=(mallory,)), signed(GET))
     row("another key put in with its hash", "invalid-signature", Request(keys=(mallory,)), [
-        ("Signature-Input", text.replace(hash_of(ALICE.text), hash_of(MALLORY.text))), ("Signature", value)])
+        ("Signature-Input", signature_input.replace(hash_of(ALICE.text), hash_of(MALLORY.text))), ("Signature", signature)])
     row("another key and no name of the service", "other-authority", Request(keys=(mallory,), authority="evil.example"))
     row("another key and a chain that is not covered", "uncovered-field", replace(CHAINED, components=PLAIN, keys=(mallory,)))
     row("another key of another algorithm", "other-key", Request(keyid=hash_of(MALLORY.text), algorithm="ecdsa-p256-sha256"))
@@ -493,12 +493,12 @@ def octets_of(signature: str) -> bytes:
 
 def changed_signatures() -> None:
     """The octets of a signature by Ed25519, and how they are written."""
-    (_, text), (_, value) = signed(GET)
-    octets = octets_of(value)
+    (_, signature_input), (_, signature) = signed(GET)
+    octets = octets_of(signature)
 
     def add_row(name: str, gives: str, changed: str) -> None:
         """Adds a row in which GET has the Signature `spki=` and `changed`."""
-        row_of_signature(name, gives, GET, text, changed)
+        row_of_signature(name, gives, GET, signature_input, changed)
 
     add_row("an octet changed", "invalid-signature", f":{in_base64(bytes([octets[0] ^ 1]) + octets[1:])}:")
     add_row("a signature cut off", "invalid-signature", f":{in_base64(octets[:-1])}:")
@@ -521,16 +521,16 @@ def changed_signatures() -> None:
 def changed_ecdsa() -> None:
     """The octets of a signature by ECDSA, which are r and s side by side, and what is sent again."""
     by_p256 = Request(key=P256)
-    (_, text), (_, value) = signed(by_p256)
-    numbers = octets_of(value)
+    (_, signature_input), (_, signature) = signed(by_p256)
+    numbers = octets_of(signature)
     r, s = int.from_bytes(numbers[:32], "big"), int.from_bytes(numbers[32:], "big")
-    row_of_signature("ECDSA in DER", "invalid-signature", by_p256, text, f":{in_base64(encode_dss_signature(r, s))}:")
-    row_of_signature("ECDSA with numbers 00", "invalid-signature", by_p256, text, f":{in_base64(bytes(64))}:")
+    row_of_signature("ECDSA in DER", "invalid-signature", by_p256, signature_input, f":{in_base64(encode_dss_signature(r, s))}:")
+    row_of_signature("ECDSA with numbers 00", "invalid-signature", by_p256, signature_input, f":{in_base64(bytes(64))}:")
     other = numbers[:32] + (ORDER_256 - s).to_bytes(32, "big")
-    row_of_signature("ECDSA with the other s, whose nonce is the same", "valid", by_p256, text, f":{in_base64(other)}:")
+    row_of_signature("ECDSA with the other s, whose nonce is the same", "valid", by_p256, signature_input, f":{in_base64(other)}:")
     by_p384 = Request(key=P384)
-    (_, text), (_, value) = signed(by_p384)
-    numbers = octets_of(value)
+    (_, signature_input), (_, signature) = signed(by_p384)
+    numbers = octets_of(signature)
     r, s = int.from_bytes(numbers[:48], "big"), int.from_bytes(numbers[48:], "big")
     for name, octets in {
         "in DER": encode_dss_signature(r, s), "with numbers 00": bytes(96), "with numbers of 32 octets": numbers[:32] + numbers[48:80],
@@ -538,9 +538,9 @@ def changed_ecdsa() -> None:
         "with the order for r": ORDER_384.to_bytes(48, "big") + numbers[48:],
         "of the other order": numbers[48:] + numbers[:48], "of another message": P384.sign(b"another message"),
     }.items():
-        row_of_signature(f"P-384 {name}", "invalid-signature", by_p384, text, f":{in_base64(octets)}:")
+        row_of_signature(f"P-384 {name}", "invalid-signature", by_p384, signature_input, f":{in_base64(octets)}:")
     other = numbers[:48] + (ORDER_384 - s).to_bytes(48, "big")
-    row_of_signature("P-384 with the other s", "valid", by_p384, text, f":{in_base64(other)}:")
+    row_of_signature("P-384 with the other s", "valid", by_p384, signature_input, f":{in_base64(other)}:")
     row("P-384 by SHA-256", "invalid-signature", by_p384, signed(replace(by_p384, key=P384_BY_SHA256, algorithm=P384.algorithm)))
     row("P-384 sent again", "nonce-seen", by_p384, again=0)
     row("sent again at once", "nonce-seen", GET, again=0)

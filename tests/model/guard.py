@@ -110,7 +110,7 @@ def open_guard(text: bytes, strict: bool, limits: Limits) -> Guard:
 
 
 def case_of(guard: Guard, question: Parts, rows: list[Row]) -> Case:
-    """The case of a question, with these rows. Raises Refused for its octets, else for the first bad part, else for its certificates or strings."""
+    """The case of a question, with these rows. Raises Refused for too many octets, else the first bad part, else too many certificates or strings."""
     if octets_of(question) > guard.limits.octets:
         REFUSED.count_use("question TooLong")
         raise Refused("question TooLong")
@@ -271,8 +271,7 @@ def misuse_of_opening(policy: int, limits: Limits, oddity: str) -> str | None:
     return above[0] if above else oddity if oddity in OPENED else None
 
 
-def answer(wish: str, list_text: bytes, question: Parts, rows: list[Row], policy: int, limits: Limits, oddity: str
-           ) -> tuple[Answer, list[Signed]]:
+def answer(wish: str, list_text: bytes, question: Parts, rows: list[Row], policy: int, limits: Limits, oddity: str) -> tuple[Answer, list[Signed]]:
     """What the library answers to a question, and the signatures that it lists. `wish` is the call: decide, explain or reduce. The verifier accepts
     the signatures of the rows. The oddity is a row of MISUSES or of ALLOWED: what is misuse in the calls, or which optional pointer is null. It
     is empty if nothing is odd. Raises ModelDisagrees if a decision is not that of `check`."""

@@ -95,7 +95,7 @@ static void *serve(void *argument)
     return NULL;
 }
 
-/* Two clients at once, in one thread and then in several: b shows what a has signed, and c a certificate in the name of a whose signature is not
+/* Two clients at once, in one thread and then in `count`: b shows what a has signed, and c a certificate in the name of a whose signature is not
  * valid. A mark for one question grants nothing to the other. */
 static void two_clients(const char *list, const char *sequence, const char *key, size_t count)
 {
@@ -152,12 +152,13 @@ static void marks_of_question(const char *list, const char *sequence, const char
     spki_guard_close(guard);
     spki_guard_close(other);
     const struct spki_signed first = expect_signature(asked);
-    for (int turn = 0; turn < 3; turn++) {
+    for (int turn = 0; turn < 3; turn++) { /* (without a mark, with one, and with the same one again) */
         expect(!turn || spki_asked_mark(asked, 0) == SPKI_DONE, "no mark");
         expect(decide(asked, line, sizeof line, &needed) == (turn ? SPKI_YES : SPKI_NO), "another decision");
         expect(spki_asked_explain(asked, line, sizeof line, &needed).status == SPKI_DONE
                && is_text(line, needed, turn ? "entry 1 grants\n" : "item 1 NotAccepted\n"), "another explanation");
-        expect(spki_asked_reduce(asked, line, sizeof line, &needed).status == SPKI_DONE && needed > 5, "another reduction");
+        expect(spki_asked_reduce(asked, line, sizeof line, &needed).status == SPKI_DONE && needed > 7
+               && !memcmp(line, turn ? "entry 1" : "item 1 ", 7), "another reduction");
     }
     expect(!memcmp((struct spki_signed[]){expect_signature(asked)}, &first, sizeof first), "texts that a mark has moved");
     expect(!spki_asked_count(none) && spki_asked_mark(none, 0) == SPKI_MISUSED, "a mark of no signature");

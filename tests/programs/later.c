@@ -8,7 +8,7 @@
 
 static struct spki_limits limits_seen;
 static struct parts parts_seen;
-static size_t limits_count;
+static size_t limits_count; /* (of the structures of limits that spki.c passes on: always 1) */
 
 /* In place of the proved library's function: keeps the limits that spki.c has read, and opens a guard. */
 uint32_t spki_c_guard_open(struct spki_text list, uint32_t policy, const struct spki_limits *limits, size_t count, struct handle *guard,

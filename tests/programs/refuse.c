@@ -144,5 +144,5 @@ __attribute__((destructor)) static void report(void) {
     counting = 0;
     int length = snprintf(line, sizeof line, "%lu %lu %lu %lu %lu %lu %lu\n", memory.asked, memory.refused, reads.asked,
                           reads.refused, writes.asked, writes.refused, before_reads);
-    if (write(3, line, length) != length) return;
+    if (write(3, line, length) != length) return; /* (whoever reads descriptor 3 sees that the line is missing) */
 }

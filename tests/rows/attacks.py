@@ -181,8 +181,8 @@ LEAVING = "/.well-known/spki-chain"
 
 
 def attacks_on_left_certificates() -> Iterator[Plain]:
-    """Requests at LEAVING, where a client leaves certificates (at most 8,192 octets) for later requests. Some servers pass these on without a
-    question to the daemon: so no question may be decided there, and no certificates may be left without a signature."""
+    """Requests at LEAVING, where a client leaves certificates (at most 8,192 octets) for later requests. Some web servers pass these on without
+    asking the daemon whether they are allowed. So the daemon must decide no request there, and keep no certificates without a signature."""
     claims = ("X-Original-Method: GET", f"X-Original-URI: {WEB}", "X-Original-Host: localhost", "X-Forwarded-Method: GET", f"X-Forwarded-Uri: {WEB}",
               "X-Forwarded-Host: localhost", "X-Client-Cert: {ann}")
     for method in ("PUT", "GET", "POST", "DELETE", "HEAD", "OPTIONS", "COPY"):
@@ -206,7 +206,7 @@ def with_statuses(attacks: Iterator[Plain], must: set[int]) -> Iterator[Attack]:
 
 
 def all_attacks() -> Iterator[Attack]:
-    """All attacks. A path that has more than plain characters, or `..`, may also be refused by the server itself, or not be found."""
+    """All attacks. One by a path with `..` or other than plain characters, or at LEAVING, the server may also refuse by itself, or find nothing."""
     yield from with_statuses(attacks_by_headers(), DENIED)
     yield from with_statuses(attacks_by_doubled_parts(), MALFORMED)
     yield from with_statuses(attacks_by_methods(), DENIED)

@@ -96,7 +96,7 @@ def of_verifiers() -> Iterator[CallRow]:
         ("delegation, none accepted", none, NO_ROWS, b"No"), ("delegation, all accepted", none, b"all", b"Yes(1)"),
         ("delegation, broken", none, b"broken", b"refused Memory"), ("delegation, another signer", delegation("", KB), b"all", b"No"),
     ]:
-        parts = parts_of(text)
+        parts = parts_of(text)  # (list, sequence, key, request, moment, policy)
         for call in ("PreparedQuestion::decide", "PreparedQuestion::grant"):
             yield CallRow(f"calls/cases:{name}: {call}", call, (parts[0], parts[5], *NO_LIMITS, *parts[1:5], verifier), wanted)
     for call in ("decide", "explain", "reduce_case"):
@@ -128,7 +128,7 @@ def of_separate_rows() -> Iterator[CallRow]:
 def of_revoked_keys() -> Iterator[CallRow]:
     """What `decide_unrevoked`, and `answer_both` to KB and to KA, say of a case in which KA delegates its right to KB, with some keys revoked."""
     text = case(entry("a"), row(C1, KA), signed(C1, KA))
-    parts, rows = parts_of(text)[:5], rows_of(text)
+    parts, rows = parts_of(text)[:5], rows_of(text)  # (list, sequence, key, request, moment)
     ka, kb = canonical(KA), canonical(KB)
     for revoked, wanted in (((), b"Yes(1)"), ((kb,), b"Yes(1)"), ((kb, ka), b"No")):
         yield CallRow(f"calls/callers:decide_unrevoked {len(revoked)}", "decide_unrevoked", (*parts, rows, *revoked), wanted)
@@ -204,8 +204,8 @@ def of_questions() -> Iterator[CallRow]:
 
 
 def of_question(place: str, wish: str, parts: list[bytes], rows: bytes, answer: bytes, listed: list[guard.Signed]) -> Iterator[CallRow]:
-    """The rows of one question, by each call that can answer it. `parts` are as `parts_of` returns them, `rows` is the text of the accepted
-    signatures, `answer` are the lines that the model answers, and `listed` the signatures of the question, which marks accept or not."""
+    """The rows of one question, by each call that can answer it. `parts`: list, sequence, key, request, moment and policy. `rows`: the text of the
+    accepted signatures. `answer`: the lines that the model answers. `listed`: the signatures of the question, which marks accept or not."""
     opening, question, marks, result = (parts[0], parts[5], *NO_LIMITS), tuple(parts[1:5]), marks_of(rows, listed), in_debug(wish, answer)
     yield CallRow(f"{place} {wish}", f"PreparedQuestion::{wish}", (*opening, *question, rows), result)
     yield CallRow(f"{place} {wish}_by", f"PreparedQuestion::{wish}_by", (*opening, *question, marks), result)

@@ -14,7 +14,7 @@ LANGUAGES = ("c", "cpp", "rust", "go", "python")
 FUNCTIONS = {"c": ("static const char *row_{}(void)\n{{", "    ", "}"), "cpp": ("static const char *row_{}()\n{{", "    ", "}"),
              "rust": ("fn row_{}() -> Outcome {{", "    ", "}"), "go": ("func row_{}() string {{", "\t", "}"),
              "python": ("\n\ndef row_{}() -> str:", "    ", "")}
-# The program behind the functions, and one of its calls: each writes the number of a row and what came of it.
+# Of each language what begins the main function, one of its calls, which writes the number of a row and its outcome, and what ends it.
 MAINS = {
     "c": ("int main(void)\n{\n", '    printf("%d %s\\n", {0}, row_{0}());\n', "    return 0;\n}\n"),
     "cpp": ("#include <cstdio>\nstatic void call(int place, const char *(*row)())\n{\n    const char *result = \"is refused\";\n    try {\n"
