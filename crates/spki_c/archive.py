@@ -32,7 +32,7 @@ ROOT = os.path.realpath(os.path.join(CRATE, "..", ".."))
 OWN, ARM = "x86_64-unknown-linux-gnu", "aarch64-unknown-linux-gnu"
 # Where `rt lib` leaves the proved code.
 MADE = "out/libspki_c.a"
-# Of each target: the folder of its libraries, its C compiler, how its other tools begin, and the Debian packages of the two.
+# Of each target: the folder of its libraries, its C compiler, how its other tools begin, and the Debian packages of compiler and tools.
 TARGETS = {OWN: ("out", "cc", "", "gcc", "binutils"),
            ARM: (f"out/{ARM}", "aarch64-linux-gnu-gcc", "aarch64-linux-gnu-", "gcc-aarch64-linux-gnu", "binutils-aarch64-linux-gnu")}
 # A declaration of a call. What the header defines itself does not match, since its line has a parenthesis before the name: SPKI_INLINE(..).
@@ -107,6 +107,7 @@ def link(target, kit, proved):
     """Links the proved code, the archive at the path `proved`, and the C code into one object, and this into both libraries. `kit` is the folder of
     the toolchain."""
     def run(*words):
+        """Runs a command. Raises CalledProcessError if it fails."""
         subprocess.run(words, check=True)
 
     folder, cc, prefix, _, _ = TARGETS[target]

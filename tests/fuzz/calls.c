@@ -382,7 +382,7 @@ static void decide(struct input *in, const struct parts *parts, spki_asked *aske
     unmarked = mark_some(in, asked, &rows);
     decision = answer_of(in, call_asked, &with);
     expect(decision.status == SPKI_YES || is_line(&decision, "no\n"), "no decision");
-    expect(spki_asked_granted(asked) == (decision.status == SPKI_YES), "a yes that is none, or none that is one");
+    expect(spki_asked_granted(asked) == (decision.status == SPKI_YES), "spki_asked_granted says otherwise than the decision");
     expect(decision.status == SPKI_NO || !unmarked, "a grant with a signature that is not valid");
     expect(unmarked || is_possible == (decision.status == SPKI_YES), "all signatures are valid, and the answer is not the one that was possible");
     expect(spki_asked_possible(asked) == is_possible, "a mark changes what is possible");

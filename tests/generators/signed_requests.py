@@ -1,8 +1,9 @@
 #!/usr/bin/env python3
 """Makes the table `bindings/go/httpsig/testdata/rows`: signed requests, valid ones and attacks, which the verifiers of all languages read.
 
-It signs by `cryptography`, and writes each signature base by hand, as RFC 9421 has it: nothing here is of the verifiers. Those by Ed25519 have the
-key of the RFC's appendix B. The other keys are new in each run, so the table changes with each.
+It signs by `cryptography`, and writes each signature base by hand, as RFC 9421 has it: nothing here is of the verifiers. Alice's key is that of the
+RFC's appendix B. The other keys are new in each run, so the table changes with each. `row(name, gives, sent, signature)` adds a row: what a verifier
+must answer to the request `sent` with these fields of a signature, by default its own.
 
 A row has these lines. A tab, a line feed, a carriage return and a backslash in them are `\\t`, `\\n`, `\\r`, `\\\\`, another octet is `\\xHH`:
 
@@ -68,6 +69,7 @@ def ed25519(private: Ed25519PrivateKey) -> Key:
 def ecdsa(private: ec.EllipticCurvePrivateKey, bits: int, digest: SHA256 | SHA384) -> Key:
     """The `Key` of a private key of ECDSA on the curve NIST P-`bits`. It hashes by `digest`. Its signature is r and s side by side (RFC 9421)."""
     def sign(message: bytes) -> bytes:
+        """The signature of a message: its two numbers, each in as many octets as the curve has."""
         return b"".join(number.to_bytes(bits // 8, "big") for number in decode_dss_signature(private.sign(message, ec.ECDSA(digest))))
     octets = private.public_key().public_bytes(Encoding.X962, PublicFormat.UncompressedPoint)
     return Key(b"(10:public-key(3:ecc(5:curve10:NIST P-%d)(1:q%s)))" % (bits, string(octets)), f"ecdsa-p{bits}-sha{bits}", sign)
@@ -357,7 +359,7 @@ def changed_inputs() -> None:
         "a line feed in Signature-Input": text.replace('" "', '"\n"', 1), "an octet over ASCII in a parameter": text.replace("sFzj", "s\xe9zj"),
         "a list that does not end": text.partition(")")[0], "a string that does not end": text[:-1],
         "a name of a parameter in capitals": text.replace(";alg", ";Alg"),
-        # (the others are those of PLAIN)
+        # (28 new ones beside the 5 of PLAIN: one more than 32)
         "33 components": text.replace('("', "(" + "".join(f'"x-{number}" ' for number in range(28)) + '"'),
         "a Signature-Input of over 8,192 octets": text.replace('";alg', "A" * 8192 + '";alg'),
     }.items():
@@ -534,8 +536,7 @@ def changed_ecdsa() -> None:
     r, s = int.from_bytes(numbers[:48], "big"), int.from_bytes(numbers[48:], "big")
     for name, octets in {
         "in DER": encode_dss_signature(r, s), "with numbers 00": bytes(96), "with numbers of 32 octets": numbers[:32] + numbers[48:80],
-        "with numbers of 49 octets": b"\0" + numbers[:48] + b"\0" + numbers[48:],
-        "with the order for r": ORDER_384.to_bytes(48, "big") + numbers[48:],
+        "with numbers of 49 octets": b"\0" + numbers[:48] + b"\0" + numbers[48:], "with the order for r": ORDER_384.to_bytes(48, "big") + numbers[48:],
         "of the other order": numbers[48:] + numbers[:48], "of another message": P384.sign(b"another message"),
     }.items():
         row_of_signature(f"P-384 {name}", "invalid-signature", by_p384, signature_input, f":{in_base64(octets)}:")

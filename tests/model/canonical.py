@@ -21,7 +21,7 @@ def bad(place: str, at: int) -> FormFault:
 def read(text: bytes) -> Value:
     """The value of a canonical text. Raises FormFault with the first fault from the left."""
     if len(text) > LONGEST:
-        raise FormFault("TooLong")
+        raise FormFault("TooLong")  # (no row of FAULTS: `calls.string_at` counts it)
     try:
         value, end = value_at(text, at=0, open_lists=0)
         if end < len(text):

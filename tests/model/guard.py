@@ -302,7 +302,7 @@ def answer(wish: str, list_text: bytes, question: Parts, rows: list[Row], policy
 
 
 def is_possible(list_text: bytes, question: Parts, policy: int, limits: Limits) -> bool:
-    """Whether a question would be granted if all its signatures were valid. The list and the question must be ones that are read."""
+    """Whether a question would be granted if all its signatures were valid. Raises Refused for a list or question that is refused."""
     guard = open_guard(list_text, policy == STRICT, limits)
     case = case_of(guard, question, rows=[])
     rows = [Row(structures.read_key(forms.read(key)), hashlib.sha256(message).digest(), value) for key, message, value in signatures_to_verify(case)]

@@ -364,8 +364,8 @@ static enum spki_status answer_by(int call, const spki_asked *asked, unsigned ch
     }
 }
 
-/* In each call about a question the request for memory with this number, from 1, is refused. Then the call must answer `refused Memory`, and when it
- * is repeated without that, as usual. If it makes fewer requests, it must answer as usual at once. */
+/* In each call about a question the request for memory with this number, from 1, is refused. Then the call must answer `refused Memory`, and
+ * when it is repeated with memory, what it would have answered. If it makes fewer requests, it must answer that at once. */
 static void refuse_in_calls(const spki_guard *guard, const struct spki_question *question, size_t request)
 {
     unsigned char line[256];
