@@ -536,7 +536,8 @@ def changed_ecdsa() -> None:
     r, s = int.from_bytes(numbers[:48], "big"), int.from_bytes(numbers[48:], "big")
     for name, octets in {
         "in DER": encode_dss_signature(r, s), "with numbers 00": bytes(96), "with numbers of 32 octets": numbers[:32] + numbers[48:80],
-        "with numbers of 49 octets": b"\0" + numbers[:48] + b"\0" + numbers[48:], "with the order for r": ORDER_384.to_bytes(48, "big") + numbers[48:],
+        "with numbers of 49 octets": b"\0" + numbers[:48] + b"\0" + numbers[48:],
+        "with the order for r": ORDER_384.to_bytes(48, "big") + numbers[48:],
         "of the other order": numbers[48:] + numbers[:48], "of another message": P384.sign(b"another message"),
     }.items():
         row_of_signature(f"P-384 {name}", "invalid-signature", by_p384, signature_input, f":{in_base64(octets)}:")
