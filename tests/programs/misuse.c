@@ -119,8 +119,7 @@ static void wrong_buffers(struct spki_text invalid)
 /* Limits and questions with a wrong size, and limits that are too high, must be misuse. */
 static void wrong_sizes(void)
 {
-    struct spki_limits limits[] = {SPKI_USUAL_LIMITS, SPKI_USUAL_LIMITS, SPKI_USUAL_LIMITS, SPKI_USUAL_LIMITS, SPKI_USUAL_LIMITS,
-                                   SPKI_USUAL_LIMITS};
+    struct spki_limits limits[] = {SPKI_USUAL_LIMITS, SPKI_USUAL_LIMITS, SPKI_USUAL_LIMITS, SPKI_USUAL_LIMITS, SPKI_USUAL_LIMITS, SPKI_USUAL_LIMITS};
     struct spki_question question = good_question();
     static const size_t sizes[] = {0, sizeof question - 1, sizeof question + 1, SIZE_MAX};
     limits[0].size = 0;

@@ -6,8 +6,8 @@
  *   REFUSE_STEP=1    a read or a write takes one octet at most
  *   REFUSE_IN=WORD   where the program was started by another word it is left alone
  *
- * At the end it writes to descriptor 3 how many were asked and refused of each, and how many requests for memory came before
- * the first read. A program that hangs is ended by SIGALRM after SECONDS. */
+ * At the end it writes to descriptor 3 how many were asked and refused of each, and how many requests for memory came before the first read. A
+ * program that hangs is ended by SIGALRM after SECONDS. A function named as one of the C library takes its place, and calls that one as `next`. */
 #define _GNU_SOURCE
 #include <dlfcn.h>
 #include <errno.h>
