@@ -117,10 +117,10 @@ def link(target, kit, proved):
         with open(script, "w", encoding="ascii") as file:
             file.write(version_script())
         of_c = []
-        for source in ["spki.c", *["heap.c"] * (target != OWN)]:
+        for source in ["spki.c"] if target == OWN else ["spki.c", "heap.c"]:
             of_c.append(os.path.join(room, f"{source}.o"))
             run(cc, *OF_C, "-c", "-o", of_c[-1], source)
-        of_kit = [os.path.join(kit, "c", "liblibc_c.a")] * (target == OWN)
+        of_kit = [os.path.join(kit, "c", "liblibc_c.a")] if target == OWN else []  # (in its place heap.c)
         run(f"{prefix}ld", "-r", "-o", whole, *of_c, "--whole-archive", proved, *of_kit)
         run(f"{prefix}objcopy", *(f"--keep-global-symbol={name}" for name in exports()), whole)
         for old in (archive, shared):

@@ -233,7 +233,7 @@ def valid_requests() -> None:
 
 
 def changed_requests() -> None:
-    """Requests that are changed after they were signed."""
+    """Requests that are changed after they were signed, and some whose authority, method or target is refused in itself."""
     # (`get` is another method than `GET`, and all but GET and HEAD need a digest of the body)
     row("a method in small letters", "body-without-digest", replace(GET, method="get"), signed(GET))
     for name, sent in {
@@ -328,7 +328,7 @@ def changed_fields() -> None:
 
 
 def changed_inputs() -> None:
-    """`Signature-Input` and `Signature` that are changed, or that are not those of the profile, and beside them one that is valid."""
+    """`Signature-Input` and `Signature` that are changed, or that are not those of the profile."""
     fields = signed(GET)
     text, valid_signature = (value for _, value in fields)  # (`text` is Signature-Input of GET, which the rows change)
     bare = text.removeprefix("spki=")
@@ -368,6 +368,10 @@ def changed_inputs() -> None:
     add_row("another value of a parameter", "invalid-signature", text.replace("sFzj", "tFzj"))
     add_row("an earlier end", "invalid-signature", text.replace(f"expires={NOW + 300}", f"expires={NOW + 299}"))
     add_row("parameters changed in order", "invalid-signature", text.replace(';tag="spki"', "").replace(";created", ';tag="spki";created'))
+
+
+def changed_components() -> None:
+    """Components of a signature that are left out, come twice, or are not those of the profile, and beside them some that are valid."""
     for name in PLAIN:
         row(f"{name} left out", "missing-component", Request(components=tuple(other for other in PLAIN if other != name)))
     row("no components", "missing-component", Request(components=()))
@@ -377,10 +381,10 @@ def changed_inputs() -> None:
         row(f"the component {name}", "unknown-component", Request(components=(*PLAIN, name)))
     param = parameters_of(GET).replace('"@query"', '"@query";name="a"')
     row("the component @query-param", "unknown-component", GET, signed(Request(parameters=param)))
-    add_row("a component with a parameter", "unknown-component", text.replace('"@path"', '"@path";req'))
-    add_row("a component in capitals", "unknown-component", text.replace("@path", "@PATH"))
-    add_row("an empty component", "unknown-component", text.replace("@path", ""))
-    add_row("the component signature", "unknown-component", text.replace("@path", "signature"))
+    (_, text), signature = signed(GET)
+    for name, component in {"a component with a parameter": '"@path";req', "a component in capitals": '"@PATH"', "an empty component": '""',
+                            "the component signature": '"signature"'}.items():
+        row(name, "unknown-component", GET, [("Signature-Input", text.replace('"@path"', component)), signature])
 
 
 def changed_parameters() -> None:
@@ -407,7 +411,7 @@ def changed_parameters() -> None:
     row("created 61 seconds ahead", "too-early", Request(created=str(NOW + 61), expires=str(NOW + 62)))
     row("at its end", "expired", Request(now=NOW + 300))
     row("a day later", "expired", Request(now=NOW + 86_400))
-    row("created before the start", "before-start", Request(now=NOW - 98, created=str(NOW - 101), expires=str(NOW)))
+    row("created before the start", "before-start", Request(now=NOW - 98, created=str(NOW - 101), expires=str(NOW)))  # (it is NOW - 100)
     row("another key than the keyid's", "other-key", Request(keyid=hash_of(MALLORY.text)))
     alice = hash_of(ALICE.text)
     for name, value in {
@@ -554,8 +558,8 @@ def changed_ecdsa() -> None:
 
 def main() -> None:
     """Writes the table over the old one. The docstring of each function that adds rows, a single line, precedes its rows there as a remark."""
-    for add_rows in (valid_requests, changed_requests, changed_bodies, changed_certificates, changed_fields, changed_inputs, changed_parameters,
-                     changed_keys, other_keys, changed_signatures, changed_ecdsa):
+    for add_rows in (valid_requests, changed_requests, changed_bodies, changed_certificates, changed_fields, changed_inputs, changed_components,
+                     changed_parameters, changed_keys, other_keys, changed_signatures, changed_ecdsa):
         LINES.append(f"# {add_rows.__doc__}\n")
         add_rows()
     with open(os.path.join(os.path.dirname(os.path.realpath(__file__)), ROWS), "w", encoding="ascii") as file:
