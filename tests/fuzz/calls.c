@@ -295,7 +295,7 @@ static size_t mark_some(struct input *in, spki_asked *asked, struct text *rows)
     return unmarked;
 }
 
-/* Explains and reduces an opened question. The explanation must name the entry of a yes, and no entry with a no. */
+/* Explains and reduces an opened question, unless that is TooLarge. The explanation must name the entry of a yes, and no entry with a no. */
 static void explain(struct input *in, struct asked_args *with, const struct answer *decision)
 {
     struct answer lines;

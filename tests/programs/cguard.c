@@ -267,23 +267,23 @@ static void refused_questions(void)
     low.octets = 10;
     expect(spki_guard_open("(acl)", 5, SPKI_STRICT, &low, &guard, NULL, 0, NULL) == SPKI_DONE && !spki_guard_entries(guard), "low limits");
     expect_decision(guard, &question, 0, SPKI_REFUSED, "refused sequence Short\n");
-    question.sequence = text("(sequence) ");
+    question.sequence = text("(sequence) "); /* (11 octets) */
     expect_decision(guard, &question, 0, SPKI_REFUSED, "refused question TooLong\n");
     expect_decision(NULL, &question, 0, SPKI_MISUSED, "");
     expect_decision(guard, NULL, 0, SPKI_MISUSED, "");
     expect(spki_guard_ask(guard, &question, NULL, buffer, sizeof buffer, NULL) == SPKI_MISUSED, "no place for a question");
     expect(spki_guard_ask(guard, &question, &asked, NULL, 1, NULL) == SPKI_MISUSED && !asked, "a null buffer with a length");
-    question.key.text.length = 1;
+    question.key.text.length = 1; /* (of null) */
     expect_decision(guard, &question, 0, SPKI_MISUSED, "");
     question.key.text.length = 0;
-    question.word_count = 1;
+    question.word_count = 1; /* (of null) */
     expect_decision(guard, &question, 0, SPKI_MISUSED, "");
     question.words = &question.key.text;
-    question.word_count = (size_t)-1;
+    question.word_count = (size_t)-1; /* (more than memory has) */
     expect_decision(guard, &question, 0, SPKI_MISUSED, "");
     question.words = NULL;
     question.word_count = 0;
-    question.size--;
+    question.size--; /* (no multiple of sizeof(size_t)) */
     expect_decision(guard, &question, 0, SPKI_MISUSED, "");
     expect(!spki_asked_count(NULL) && spki_asked_signature(NULL, 0, &signature) == SPKI_MISUSED && !signature.key.octets, "no question");
     const struct spki_decision none = spki_asked_decide(NULL, buffer, sizeof buffer, NULL);
