@@ -1,4 +1,4 @@
-"""What attackers send: the certificates and keys that attacks.py names, made for a site."""
+"""What attackers send: certificates and keys that attacks.py names, made for a site where Ann may read and write /web/ and Eve has no right."""
 import base64
 import os
 import re

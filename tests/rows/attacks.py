@@ -1,5 +1,5 @@
 """Attacks on the examples of web servers: what is tried, who tries it, and the octets that are sent. None but those of GRANTED may be answered with
-a status 2xx, or with the content of a file.
+a status 2xx, or with the content of a file. Ann may read and write /web/, and the robot may write /web/out/. Eve has no right.
 
 In the octets, {ann} is Ann's certificate as the server passes it, {key} the hash of her key, and {ben} the sequence by which Ann lets Ben read /web/.
 The others are sequences that give nothing: see attackers.py. Lines end in CR LF (`request` and `raw` make them), but for one attack."""
