@@ -148,7 +148,7 @@ def parameters_of(request: Request) -> str:
 
 
 def value_of(request: Request, name: str) -> str:
-    """The value of a component in the signature base: for a name with `@` a part of the request, for any other the values of that field."""
+    """The value of a component in the signature base: for a name with `@` a part of the request, else the field's values with `, ` between."""
     path, mark, query = request.target.partition("?")
     derived = {"@method": request.method, "@authority": request.authority.lower(), "@path": path, "@query": "?" + query, "@status": "200",
                "@target-uri": f"https://{request.authority}{path}{mark}{query}", "@scheme": "https", "@request-target": request.target}
