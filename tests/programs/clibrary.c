@@ -87,7 +87,7 @@ static void ask_with(const struct question *asked, size_t size)
     free(block);
 }
 
-/* Asks once for each of the first `most` requests for memory, with that one refused, until the call makes no more. Each answer must say so. */
+/* Asks once for each of the first `most` requests for memory, with that one refused, until the call makes fewer. Each must get `refused Memory`. */
 static void ask_refused(const struct question *asked, size_t most)
 {
     static const char refused[] = "refused Memory\n";

@@ -77,7 +77,7 @@ def attacks_by_headers() -> Iterator[Plain]:
 
 
 def attacks_by_doubled_parts() -> Iterator[Plain]:
-    """Requests in which a header or a whole request comes twice, a line or a length is malformed or too long, or an address is in place of the path."""
+    """Requests in which a header or a whole request comes twice, a line or a length is malformed or too long, or an address is there for the path."""
     shown, basic = "Authorization: SPKI {ben}", "Authorization: Basic YW5uOmFubg=="
     yield "two headers with certificates, the first of another scheme", "ben", request(WEB, basic, shown)
     yield "two headers with certificates, the first of others", "ben", request(WEB, "Authorization: SPKI {ended}", shown)
