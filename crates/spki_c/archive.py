@@ -32,7 +32,7 @@ ROOT = os.path.realpath(os.path.join(CRATE, "..", ".."))
 OWN, ARM = "x86_64-unknown-linux-gnu", "aarch64-unknown-linux-gnu"
 # Where `rt lib` leaves the proved code.
 MADE = "out/libspki_c.a"
-# Of each target: the folder of its libraries, its C compiler, how its other tools begin, and the Debian packages of the two.
+# Of each target: the folder of its libraries, its C compiler, how its other tools begin, and the Debian packages of compiler and tools.
 TARGETS = {OWN: ("out", "cc", "", "gcc", "binutils"),
            ARM: (f"out/{ARM}", "aarch64-linux-gnu-gcc", "aarch64-linux-gnu-", "gcc-aarch64-linux-gnu", "binutils-aarch64-linux-gnu")}
 # A declaration of a call. What the header defines itself does not match, since its line has a parenthesis before the name: SPKI_INLINE(..).
@@ -49,15 +49,16 @@ def toolchain(path):
     return module.rtlib
 
 
-def build_over_gate(rt, flags, to):
-    """Builds the proved code as the file `to`, over what `rt ci` left of the libraries below. Returns whether it is built: if false, `rt lib` must
-    build it. It is not tried if these libraries are built already, or if `rt ci` has not left all of them."""
-    crate = next(it for it in rt.crates_below(ROOT) if it.name == "spki_c")
+def build_over_gate(rtlib, flags, to):
+    """Builds the proved code as the file `to`, over what `rt ci` left of the libraries below. `rtlib` is the module of `toolchain`, and `flags` are
+    words of `rt lib`. Returns whether it is built: if false, `rt lib` must build it. It is not tried if these libraries are built already, or if
+    `rt ci` has not left all of them."""
+    crate = next(it for it in rtlib.crates_below(ROOT) if it.name == "spki_c")
     below = crate.below()
     if all(it.is_built() for it in below) or not all(os.path.isdir(it.rlib) for it in below):
         return False
     # (`rt ci` leaves the statements of these libraries without their proofs)
-    rt.Crate.cuts_libraries = True
+    rtlib.Crate.cuts_libraries = True
     return crate.compile(flags, to) == 0
 
 
@@ -106,6 +107,7 @@ def link(target, kit, proved):
     """Links the proved code, the archive at the path `proved`, and the C code into one object, and this into both libraries. `kit` is the folder of
     the toolchain."""
     def run(*words):
+        """Runs a command. Raises CalledProcessError if it fails."""
         subprocess.run(words, check=True)
 
     folder, cc, prefix, _, _ = TARGETS[target]
@@ -115,10 +117,10 @@ def link(target, kit, proved):
         with open(script, "w", encoding="ascii") as file:
             file.write(version_script())
         of_c = []
-        for source in ["spki.c", *["heap.c"] * (target != OWN)]:
+        for source in ["spki.c"] if target == OWN else ["spki.c", "heap.c"]:
             of_c.append(os.path.join(room, f"{source}.o"))
             run(cc, *OF_C, "-c", "-o", of_c[-1], source)
-        of_kit = [os.path.join(kit, "c", "liblibc_c.a")] * (target == OWN)
+        of_kit = [os.path.join(kit, "c", "liblibc_c.a")] if target == OWN else []  # (in its place heap.c)
         run(f"{prefix}ld", "-r", "-o", whole, *of_c, "--whole-archive", proved, *of_kit)
         run(f"{prefix}objcopy", *(f"--keep-global-symbol={name}" for name in exports()), whole)
         for old in (archive, shared):

@@ -235,12 +235,13 @@ static enum spki_status call_asked(const void *with, void *buffer, size_t length
     return args->answers(args->asked, buffer, length, needed);
 }
 
-/* Each of the next two is a call for `answers` of struct asked_args: it returns the status alone. */
+/* For `answers` of struct asked_args: explains an opened question, and returns the status alone. */
 static enum spki_status status_of_explanation(const spki_asked *asked, void *buffer, size_t length, size_t *needed)
 {
     return spki_asked_explain(asked, buffer, length, needed).status;
 }
 
+/* For `answers` of struct asked_args: reduces an opened question, and returns the status alone. */
 static enum spki_status status_of_reduction(const spki_asked *asked, void *buffer, size_t length, size_t *needed)
 {
     return spki_asked_reduce(asked, buffer, length, needed).status;
@@ -294,7 +295,7 @@ static size_t mark_some(struct input *in, spki_asked *asked, struct text *rows)
     return unmarked;
 }
 
-/* Explains and reduces an opened question. The explanation must name the entry of a yes, and no entry with a no. */
+/* Explains and reduces an opened question, unless that is TooLarge. The explanation must name the entry of a yes, and no entry with a no. */
 static void explain(struct input *in, struct asked_args *with, const struct answer *decision)
 {
     struct answer lines;
@@ -359,7 +360,7 @@ static void compare_with_case(struct input *in, const struct parts *parts, const
     }
 }
 
-/* Decides an opened question, for a struct asked_args. Only a yes has an end, `until`: otherwise it is INT64_MIN. */
+/* For `answers` of struct asked_args: decides an opened question. Only a yes has an end, `until`: otherwise it is INT64_MIN. */
 static enum spki_status status_of_decision(const spki_asked *asked, void *buffer, size_t length, size_t *needed)
 {
     const struct spki_decision decision = spki_asked_decide(asked, buffer, length, needed);
@@ -381,7 +382,7 @@ static void decide(struct input *in, const struct parts *parts, spki_asked *aske
     unmarked = mark_some(in, asked, &rows);
     decision = answer_of(in, call_asked, &with);
     expect(decision.status == SPKI_YES || is_line(&decision, "no\n"), "no decision");
-    expect(spki_asked_granted(asked) == (decision.status == SPKI_YES), "a yes that is none, or none that is one");
+    expect(spki_asked_granted(asked) == (decision.status == SPKI_YES), "spki_asked_granted says otherwise than the decision");
     expect(decision.status == SPKI_NO || !unmarked, "a grant with a signature that is not valid");
     expect(unmarked || is_possible == (decision.status == SPKI_YES), "all signatures are valid, and the answer is not the one that was possible");
     expect(spki_asked_possible(asked) == is_possible, "a mark changes what is possible");

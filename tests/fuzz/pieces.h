@@ -25,7 +25,7 @@ struct text {
     unsigned char octets[MOST_OCTETS];
 };
 
-/* The parts of a question. The request is a text and strings, and the moment a text and seconds: one of the two is given. */
+/* The parts of a question. `is_worded`: a call gets the request as strings, not as a text. `is_in_seconds`: it gets the moment in seconds. */
 struct parts {
     struct text list, sequence, key, request, moment, words[MOST_WORDS];
     size_t word_count;

@@ -153,10 +153,10 @@ class Builder:
             self.rows.append((word("by"), key, (word("hash"), word("sha256"), Atom(hashlib.sha256(octets).digest())), shown))
 
     def chain(self, subject: Subject, length: int) -> Subject:
-        """Adds certificates from a subject on. Returns the subject that the chain ends with."""
+        """Adds `length` certificates from a subject on, and mostly the definitions of names that are left. Returns the chain's last subject."""
         for left in range(length, 0, -1):
             subject = self.certificate(subject, is_last=left == 1)
-        # (names that are left are mostly defined. Each definition may leave more of them, so the items have a bound)
+        # (each definition may leave more names, so the items have a bound)
         while subject.names and not self.by_chance(0.1) and len(self.items) < 24:
             subject = self.certificate(subject, is_last=True)
         return subject

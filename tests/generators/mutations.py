@@ -78,8 +78,7 @@ NEARLY = {
         (request a b) (request *) (request (a *))"""),
     b"at": values_of('(at) (at ()) (at [h]"2024-01-01_00:00:00") (at "2024-01-01_24:00:00") (at "2024-01-01_00:00:00" x)'),
     b"policy": values_of("(policy) (policy open) (policy [h]strict) (policy (strict)) (policy strict x) strict"),
-    b"acl": values_of('(acl) (acl (version "1")) (acl (version)) (acl (version ())) (acl x) acl'),
-}
+    b"acl": values_of('(acl) (acl (version "1")) (acl (version)) (acl (version ())) (acl x) acl')}
 # heads that stand once in a case, or that seldom show
 RARE = (b"request", b"request", b"entry", b"do", b"at", b"version")
 # (a member behind the head is read first: so a fault there comes before others)
@@ -89,8 +88,7 @@ FIRST = {
     b"cert": values_of("""
         (version "1") (version [h]"0") (not-before "2024-13-01_00:00:00") (not-before "2024-01-32_00:00:00") (not-before "2024-01-01_24:00:00")
         (not-after "2024-01-01_00:60:00") (not-after "2024-01-01_00:00:61") (not-after "2024-01-00_00:00:00")"""),
-    b"signature": values_of("(hash md5 x) (hash [h]sha1 x) (hash md5) (hash [h]sha1)"),
-}
+    b"signature": values_of("(hash md5 x) (hash [h]sha1 x) (hash md5) (hash [h]sha1)")}
 # what is put into a text
 SNIPPETS = [it.encode() for it in r"""
     "\q" "\400" "\777" "\18" "\108" "\x6g" "\xg6" "\8" #6g# #616# |ZQ===| |YWJ| |Z| |Z=Q=| |=| |a~| 4"abc" 2#61# 1|YWI=| 0"a" 1"" [a](b)

@@ -1,4 +1,4 @@
-"""What is asked in one case: a command and its text, by a seed and a number."""
+"""The question that a seed and a number make: mostly a command and its text."""
 import random
 
 from model.answers import COMMANDS

@@ -1,4 +1,4 @@
-"""Texts at the limits: octets, lists inside one another, nodes. Each kind comes at fixed numbers of cases, since some take long."""
+"""Texts at the limits: octets, lists inside one another, nodes. Those of octets, LONG, come at fixed numbers of questions, since they take long."""
 import random
 from collections.abc import Callable
 

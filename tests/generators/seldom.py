@@ -116,7 +116,7 @@ def beside_rows(case: Value, rows: bytes, is_braced: bool = False) -> Maker:
 
 
 def to_guard_oddly(question: GuardQuestion, oddity: str) -> Maker:
-    """A maker of a question to a guard whose calls have an oddity."""
+    """A maker of a question to a guard whose calls have an oddity, which is a row of MISUSES or ALLOWED (model/guard.py)."""
     return lambda rng: with_oddity(question, rng, oddity)
 
 

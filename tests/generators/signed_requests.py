@@ -1,8 +1,9 @@
 #!/usr/bin/env python3
 """Makes the table `bindings/go/httpsig/testdata/rows`: signed requests, valid ones and attacks, which the verifiers of all languages read.
 
-It signs by `cryptography`, and writes each signature base by hand, as RFC 9421 has it: nothing here is of the verifiers. Those by Ed25519 have the
-key of the RFC's appendix B. The other keys are new in each run, so the table changes with each.
+It signs by `cryptography`, and writes each signature base by hand, as RFC 9421 has it: nothing here is of the verifiers. Alice's key is that of the
+RFC's appendix B. The other keys are new in each run, so the table changes with each. `row(name, gives, sent, signature)` adds a row: what a verifier
+must answer to the request `sent` with these fields of a signature, by default its own.
 
 A row has these lines. A tab, a line feed, a carriage return and a backslash in them are `\\t`, `\\n`, `\\r`, `\\\\`, another octet is `\\xHH`:
 
@@ -68,6 +69,7 @@ def ed25519(private: Ed25519PrivateKey) -> Key:
 def ecdsa(private: ec.EllipticCurvePrivateKey, bits: int, digest: SHA256 | SHA384) -> Key:
     """The `Key` of a private key of ECDSA on the curve NIST P-`bits`. It hashes by `digest`. Its signature is r and s side by side (RFC 9421)."""
     def sign(message: bytes) -> bytes:
+        """The signature of a message: its two numbers, each in as many octets as the curve has."""
         return b"".join(number.to_bytes(bits // 8, "big") for number in decode_dss_signature(private.sign(message, ec.ECDSA(digest))))
     octets = private.public_key().public_bytes(Encoding.X962, PublicFormat.UncompressedPoint)
     return Key(b"(10:public-key(3:ecc(5:curve10:NIST P-%d)(1:q%s)))" % (bits, string(octets)), f"ecdsa-p{bits}-sha{bits}", sign)
@@ -146,7 +148,7 @@ def parameters_of(request: Request) -> str:
 
 
 def value_of(request: Request, name: str) -> str:
-    """The value of a component in the signature base: for a name with `@` a part of the request, for any other the values of that field."""
+    """The value of a component in the signature base: for a name with `@` a part of the request, else the field's values with `, ` between."""
     path, mark, query = request.target.partition("?")
     derived = {"@method": request.method, "@authority": request.authority.lower(), "@path": path, "@query": "?" + query, "@status": "200",
                "@target-uri": f"https://{request.authority}{path}{mark}{query}", "@scheme": "https", "@request-target": request.target}
@@ -231,7 +233,7 @@ def valid_requests() -> None:
 
 
 def changed_requests() -> None:
-    """Requests that are changed after they were signed."""
+    """Requests that are changed after they were signed, and some whose authority, method or target is refused in itself."""
     # (`get` is another method than `GET`, and all but GET and HEAD need a digest of the body)
     row("a method in small letters", "body-without-digest", replace(GET, method="get"), signed(GET))
     for name, sent in {
@@ -326,7 +328,7 @@ def changed_fields() -> None:
 
 
 def changed_inputs() -> None:
-    """`Signature-Input` and `Signature` that are changed, or that are not those of the profile, and beside them one that is valid."""
+    """`Signature-Input` and `Signature` that are changed, or that are not those of the profile."""
     fields = signed(GET)
     text, valid_signature = (value for _, value in fields)  # (`text` is Signature-Input of GET, which the rows change)
     bare = text.removeprefix("spki=")
@@ -357,7 +359,7 @@ def changed_inputs() -> None:
         "a line feed in Signature-Input": text.replace('" "', '"\n"', 1), "an octet over ASCII in a parameter": text.replace("sFzj", "s\xe9zj"),
         "a list that does not end": text.partition(")")[0], "a string that does not end": text[:-1],
         "a name of a parameter in capitals": text.replace(";alg", ";Alg"),
-        # (the others are those of PLAIN)
+        # (28 new ones beside the 5 of PLAIN: one more than 32)
         "33 components": text.replace('("', "(" + "".join(f'"x-{number}" ' for number in range(28)) + '"'),
         "a Signature-Input of over 8,192 octets": text.replace('";alg', "A" * 8192 + '";alg'),
     }.items():
@@ -366,6 +368,10 @@ def changed_inputs() -> None:
     add_row("another value of a parameter", "invalid-signature", text.replace("sFzj", "tFzj"))
     add_row("an earlier end", "invalid-signature", text.replace(f"expires={NOW + 300}", f"expires={NOW + 299}"))
     add_row("parameters changed in order", "invalid-signature", text.replace(';tag="spki"', "").replace(";created", ';tag="spki";created'))
+
+
+def changed_components() -> None:
+    """Components of a signature that are left out, come twice, or are not those of the profile, and beside them some that are valid."""
     for name in PLAIN:
         row(f"{name} left out", "missing-component", Request(components=tuple(other for other in PLAIN if other != name)))
     row("no components", "missing-component", Request(components=()))
@@ -375,10 +381,10 @@ def changed_inputs() -> None:
         row(f"the component {name}", "unknown-component", Request(components=(*PLAIN, name)))
     param = parameters_of(GET).replace('"@query"', '"@query";name="a"')
     row("the component @query-param", "unknown-component", GET, signed(Request(parameters=param)))
-    add_row("a component with a parameter", "unknown-component", text.replace('"@path"', '"@path";req'))
-    add_row("a component in capitals", "unknown-component", text.replace("@path", "@PATH"))
-    add_row("an empty component", "unknown-component", text.replace("@path", ""))
-    add_row("the component signature", "unknown-component", text.replace("@path", "signature"))
+    (_, text), signature = signed(GET)
+    for name, component in {"a component with a parameter": '"@path";req', "a component in capitals": '"@PATH"', "an empty component": '""',
+                            "the component signature": '"signature"'}.items():
+        row(name, "unknown-component", GET, [("Signature-Input", text.replace('"@path"', component)), signature])
 
 
 def changed_parameters() -> None:
@@ -405,7 +411,7 @@ def changed_parameters() -> None:
     row("created 61 seconds ahead", "too-early", Request(created=str(NOW + 61), expires=str(NOW + 62)))
     row("at its end", "expired", Request(now=NOW + 300))
     row("a day later", "expired", Request(now=NOW + 86_400))
-    row("created before the start", "before-start", Request(now=NOW - 98, created=str(NOW - 101), expires=str(NOW)))
+    row("created before the start", "before-start", Request(now=NOW - 98, created=str(NOW - 101), expires=str(NOW)))  # (it is NOW - 100)
     row("another key than the keyid's", "other-key", Request(keyid=hash_of(MALLORY.text)))
     alice = hash_of(ALICE.text)
     for name, value in {
@@ -456,11 +462,11 @@ def changed_keys() -> None:
 
 def other_keys() -> None:
     """Keys other than that of the signature, and keys of odd sizes."""
-    (_, text), (_, value) = signed(GET)
+    (_, signature_input), (_, signature) = signed(GET)
     mallory = in_braces(MALLORY.text)
     small = b"(10:public-key(3:ecc(5:curve7:Ed25519)(5:flags5:eddsa)(1:q32:%s)))" % bytes(32)
     row("a point of small order", "invalid-signature", Request(keys=(in_braces(small),)), [
-        ("Signature-Input", text.replace(hash_of(ALICE.text), hash_of(small))), ("Signature", f"spki=:{in_base64(bytes(64))}:")])
+        ("Signature-Input", signature_input.replace(hash_of(ALICE.text), hash_of(small))), ("Signature", f"spki=:{in_base64(bytes(64))}:")])
     longest = rsa_key_of(3027)
     assert len(in_braces(longest)) == 4094
     row("a key of 4,094 characters", "invalid-signature", Request(keys=(in_braces(longest),), keyid=hash_of(longest), algorithm="rsa-v1_5-sha256"))
@@ -470,7 +476,7 @@ def other_keys() -> None:
     row("another key", "invalid-signature", Request(keys=(mallory,), keyid=hash_of(MALLORY.text)))
     row("another key put in", "other-key", Request(keys=(mallory,)), signed(GET))
     row("another key put in with its hash", "invalid-signature", Request(keys=(mallory,)), [
-        ("Signature-Input", text.replace(hash_of(ALICE.text), hash_of(MALLORY.text))), ("Signature", value)])
+        ("Signature-Input", signature_input.replace(hash_of(ALICE.text), hash_of(MALLORY.text))), ("Signature", signature)])
     row("another key and no name of the service", "other-authority", Request(keys=(mallory,), authority="evil.example"))
     row("another key and a chain that is not covered", "uncovered-field", replace(CHAINED, components=PLAIN, keys=(mallory,)))
     row("another key of another algorithm", "other-key", Request(keyid=hash_of(MALLORY.text), algorithm="ecdsa-p256-sha256"))
@@ -493,12 +499,12 @@ def octets_of(signature: str) -> bytes:
 
 def changed_signatures() -> None:
     """The octets of a signature by Ed25519, and how they are written."""
-    (_, text), (_, value) = signed(GET)
-    octets = octets_of(value)
+    (_, signature_input), (_, signature) = signed(GET)
+    octets = octets_of(signature)
 
     def add_row(name: str, gives: str, changed: str) -> None:
         """Adds a row in which GET has the Signature `spki=` and `changed`."""
-        row_of_signature(name, gives, GET, text, changed)
+        row_of_signature(name, gives, GET, signature_input, changed)
 
     add_row("an octet changed", "invalid-signature", f":{in_base64(bytes([octets[0] ^ 1]) + octets[1:])}:")
     add_row("a signature cut off", "invalid-signature", f":{in_base64(octets[:-1])}:")
@@ -521,16 +527,16 @@ def changed_signatures() -> None:
 def changed_ecdsa() -> None:
     """The octets of a signature by ECDSA, which are r and s side by side, and what is sent again."""
     by_p256 = Request(key=P256)
-    (_, text), (_, value) = signed(by_p256)
-    numbers = octets_of(value)
+    (_, signature_input), (_, signature) = signed(by_p256)
+    numbers = octets_of(signature)
     r, s = int.from_bytes(numbers[:32], "big"), int.from_bytes(numbers[32:], "big")
-    row_of_signature("ECDSA in DER", "invalid-signature", by_p256, text, f":{in_base64(encode_dss_signature(r, s))}:")
-    row_of_signature("ECDSA with numbers 00", "invalid-signature", by_p256, text, f":{in_base64(bytes(64))}:")
+    row_of_signature("ECDSA in DER", "invalid-signature", by_p256, signature_input, f":{in_base64(encode_dss_signature(r, s))}:")
+    row_of_signature("ECDSA with numbers 00", "invalid-signature", by_p256, signature_input, f":{in_base64(bytes(64))}:")
     other = numbers[:32] + (ORDER_256 - s).to_bytes(32, "big")
-    row_of_signature("ECDSA with the other s, whose nonce is the same", "valid", by_p256, text, f":{in_base64(other)}:")
+    row_of_signature("ECDSA with the other s, whose nonce is the same", "valid", by_p256, signature_input, f":{in_base64(other)}:")
     by_p384 = Request(key=P384)
-    (_, text), (_, value) = signed(by_p384)
-    numbers = octets_of(value)
+    (_, signature_input), (_, signature) = signed(by_p384)
+    numbers = octets_of(signature)
     r, s = int.from_bytes(numbers[:48], "big"), int.from_bytes(numbers[48:], "big")
     for name, octets in {
         "in DER": encode_dss_signature(r, s), "with numbers 00": bytes(96), "with numbers of 32 octets": numbers[:32] + numbers[48:80],
@@ -538,9 +544,9 @@ def changed_ecdsa() -> None:
         "with the order for r": ORDER_384.to_bytes(48, "big") + numbers[48:],
         "of the other order": numbers[48:] + numbers[:48], "of another message": P384.sign(b"another message"),
     }.items():
-        row_of_signature(f"P-384 {name}", "invalid-signature", by_p384, text, f":{in_base64(octets)}:")
+        row_of_signature(f"P-384 {name}", "invalid-signature", by_p384, signature_input, f":{in_base64(octets)}:")
     other = numbers[:48] + (ORDER_384 - s).to_bytes(48, "big")
-    row_of_signature("P-384 with the other s", "valid", by_p384, text, f":{in_base64(other)}:")
+    row_of_signature("P-384 with the other s", "valid", by_p384, signature_input, f":{in_base64(other)}:")
     row("P-384 by SHA-256", "invalid-signature", by_p384, signed(replace(by_p384, key=P384_BY_SHA256, algorithm=P384.algorithm)))
     row("P-384 sent again", "nonce-seen", by_p384, again=0)
     row("sent again at once", "nonce-seen", GET, again=0)
@@ -552,8 +558,8 @@ def changed_ecdsa() -> None:
 
 def main() -> None:
     """Writes the table over the old one. The docstring of each function that adds rows, a single line, precedes its rows there as a remark."""
-    for add_rows in (valid_requests, changed_requests, changed_bodies, changed_certificates, changed_fields, changed_inputs, changed_parameters,
-                     changed_keys, other_keys, changed_signatures, changed_ecdsa):
+    for add_rows in (valid_requests, changed_requests, changed_bodies, changed_certificates, changed_fields, changed_inputs, changed_components,
+                     changed_parameters, changed_keys, other_keys, changed_signatures, changed_ecdsa):
         LINES.append(f"# {add_rows.__doc__}\n")
         add_rows()
     with open(os.path.join(os.path.dirname(os.path.realpath(__file__)), ROWS), "w", encoding="ascii") as file:

@@ -1,4 +1,5 @@
-"""Reading advanced form (section "Advanced form"). `X.count_use(row)` counts one use of a row of the table X (coverage.py)."""
+"""Reading advanced form (section "Advanced form" of docs/FORMATS.md). `X.count_use(row)` counts one use of a row of the table X (coverage.py).
+Each function that reads raises FormFault with the first fault, also by `octet_at`: `Short` where the text ends too soon."""
 import re
 
 from .coverage import Rows

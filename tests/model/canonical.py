@@ -1,4 +1,5 @@
-"""Reading canonical form (section "S-expressions in canonical form"). `X.count_use(row)` counts one use of a row of the table X (coverage.py)."""
+"""Reading canonical form (section "S-expressions in canonical form"). `X.count_use(row)` counts one use of a row of the table X (coverage.py).
+Each function that reads raises FormFault with the first fault, also by `octet_at`: `Short` where the text ends too soon."""
 import re
 
 from .coverage import Rows
@@ -20,7 +21,7 @@ def bad(place: str, at: int) -> FormFault:
 def read(text: bytes) -> Value:
     """The value of a canonical text. Raises FormFault with the first fault from the left."""
     if len(text) > LONGEST:
-        raise FormFault("TooLong")
+        raise FormFault("TooLong")  # (no row of FAULTS: `calls.string_at` counts it)
     try:
         value, end = value_at(text, at=0, open_lists=0)
         if end < len(text):
@@ -58,7 +59,7 @@ def members_at(text: bytes, at: int, open_lists: int) -> tuple[Value, int]:
 
 
 def string_at(text: bytes, at: int, place: str) -> tuple[bytes, int]:
-    """The octets of the string that begins at an offset, and the offset behind it. Raises FormFault. `place`: the row of PLACES if none begins."""
+    """The octets of the string that begins at an offset, and the offset behind it. `place` is the row of PLACES if none begins there."""
     octet_at(text, at)  # (raises Short at the end of the text)
     length = LENGTH.match(text, at)
     if not length:

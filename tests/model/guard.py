@@ -110,7 +110,7 @@ def open_guard(text: bytes, strict: bool, limits: Limits) -> Guard:
 
 
 def case_of(guard: Guard, question: Parts, rows: list[Row]) -> Case:
-    """The case of a question, with these rows. Raises Refused for its octets, else for the first bad part, else for its certificates or strings."""
+    """The case of a question, with these rows. Raises Refused for too many octets, else the first bad part, else too many certificates or strings."""
     if octets_of(question) > guard.limits.octets:
         REFUSED.count_use("question TooLong")
         raise Refused("question TooLong")
@@ -271,8 +271,7 @@ def misuse_of_opening(policy: int, limits: Limits, oddity: str) -> str | None:
     return above[0] if above else oddity if oddity in OPENED else None
 
 
-def answer(wish: str, list_text: bytes, question: Parts, rows: list[Row], policy: int, limits: Limits, oddity: str
-           ) -> tuple[Answer, list[Signed]]:
+def answer(wish: str, list_text: bytes, question: Parts, rows: list[Row], policy: int, limits: Limits, oddity: str) -> tuple[Answer, list[Signed]]:
     """What the library answers to a question, and the signatures that it lists. `wish` is the call: decide, explain or reduce. The verifier accepts
     the signatures of the rows. The oddity is a row of MISUSES or of ALLOWED: what is misuse in the calls, or which optional pointer is null. It
     is empty if nothing is odd. Raises ModelDisagrees if a decision is not that of `check`."""
@@ -303,7 +302,7 @@ def answer(wish: str, list_text: bytes, question: Parts, rows: list[Row], policy
 
 
 def is_possible(list_text: bytes, question: Parts, policy: int, limits: Limits) -> bool:
-    """Whether a question would be granted if all its signatures were valid. The list and the question must be ones that are read."""
+    """Whether a question would be granted if all its signatures were valid. Raises Refused for a list or question that is refused."""
     guard = open_guard(list_text, policy == STRICT, limits)
     case = case_of(guard, question, rows=[])
     rows = [Row(structures.read_key(forms.read(key)), hashlib.sha256(message).digest(), value) for key, message, value in signatures_to_verify(case)]

@@ -295,8 +295,8 @@ def read_version(value: Value, place: str = "a list") -> None:
 
 def reader_of_one(read: Callable[[Value], Any]) -> Callable[[Value], Any]:
     """The reader of a field of any head that has one member, by the reader of the member."""
-
     def reader(value: Value) -> Any:
+        """Reads a field. Raises Shape unless it has exactly one member, and what `read` raises for that."""
         members = Members(value, head_of(value) or b"")
         content = read(members.next())
         members.end()

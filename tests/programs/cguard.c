@@ -95,7 +95,7 @@ static void *serve(void *argument)
     return NULL;
 }
 
-/* Two clients at once, in one thread and then in several: b shows what a has signed, and c a certificate in the name of a whose signature is not
+/* Two clients at once, in one thread and then in `count`: b shows what a has signed, and c a certificate in the name of a whose signature is not
  * valid. A mark for one question grants nothing to the other. */
 static void two_clients(const char *list, const char *sequence, const char *key, size_t count)
 {
@@ -152,12 +152,13 @@ static void marks_of_question(const char *list, const char *sequence, const char
     spki_guard_close(guard);
     spki_guard_close(other);
     const struct spki_signed first = expect_signature(asked);
-    for (int turn = 0; turn < 3; turn++) {
+    for (int turn = 0; turn < 3; turn++) { /* (without a mark, with one, and with the same one again) */
         expect(!turn || spki_asked_mark(asked, 0) == SPKI_DONE, "no mark");
         expect(decide(asked, line, sizeof line, &needed) == (turn ? SPKI_YES : SPKI_NO), "another decision");
         expect(spki_asked_explain(asked, line, sizeof line, &needed).status == SPKI_DONE
                && is_text(line, needed, turn ? "entry 1 grants\n" : "item 1 NotAccepted\n"), "another explanation");
-        expect(spki_asked_reduce(asked, line, sizeof line, &needed).status == SPKI_DONE && needed > 5, "another reduction");
+        expect(spki_asked_reduce(asked, line, sizeof line, &needed).status == SPKI_DONE && needed > 7
+               && !memcmp(line, turn ? "entry 1" : "item 1 ", 7), "another reduction");
     }
     expect(!memcmp((struct spki_signed[]){expect_signature(asked)}, &first, sizeof first), "texts that a mark has moved");
     expect(!spki_asked_count(none) && spki_asked_mark(none, 0) == SPKI_MISUSED, "a mark of no signature");
@@ -266,23 +267,23 @@ static void refused_questions(void)
     low.octets = 10;
     expect(spki_guard_open("(acl)", 5, SPKI_STRICT, &low, &guard, NULL, 0, NULL) == SPKI_DONE && !spki_guard_entries(guard), "low limits");
     expect_decision(guard, &question, 0, SPKI_REFUSED, "refused sequence Short\n");
-    question.sequence = text("(sequence) ");
+    question.sequence = text("(sequence) "); /* (11 octets) */
     expect_decision(guard, &question, 0, SPKI_REFUSED, "refused question TooLong\n");
     expect_decision(NULL, &question, 0, SPKI_MISUSED, "");
     expect_decision(guard, NULL, 0, SPKI_MISUSED, "");
     expect(spki_guard_ask(guard, &question, NULL, buffer, sizeof buffer, NULL) == SPKI_MISUSED, "no place for a question");
     expect(spki_guard_ask(guard, &question, &asked, NULL, 1, NULL) == SPKI_MISUSED && !asked, "a null buffer with a length");
-    question.key.text.length = 1;
+    question.key.text.length = 1; /* (of null) */
     expect_decision(guard, &question, 0, SPKI_MISUSED, "");
     question.key.text.length = 0;
-    question.word_count = 1;
+    question.word_count = 1; /* (of null) */
     expect_decision(guard, &question, 0, SPKI_MISUSED, "");
     question.words = &question.key.text;
-    question.word_count = (size_t)-1;
+    question.word_count = (size_t)-1; /* (more than memory has) */
     expect_decision(guard, &question, 0, SPKI_MISUSED, "");
     question.words = NULL;
     question.word_count = 0;
-    question.size--;
+    question.size--; /* (no multiple of sizeof(size_t)) */
     expect_decision(guard, &question, 0, SPKI_MISUSED, "");
     expect(!spki_asked_count(NULL) && spki_asked_signature(NULL, 0, &signature) == SPKI_MISUSED && !signature.key.octets, "no question");
     const struct spki_decision none = spki_asked_decide(NULL, buffer, sizeof buffer, NULL);
@@ -363,8 +364,8 @@ static enum spki_status answer_by(int call, const spki_asked *asked, unsigned ch
     }
 }
 
-/* In each call about a question the request for memory with this number, from 1, is refused. Then the call must answer `refused Memory`, and when it
- * is repeated without that, as usual. If it makes fewer requests, it must answer as usual at once. */
+/* In each call about a question the request for memory with this number, from 1, is refused. Then the call must answer `refused Memory`, and
+ * when it is repeated with memory, what it would have answered. If it makes fewer requests, it must answer that at once. */
 static void refuse_in_calls(const spki_guard *guard, const struct spki_question *question, size_t request)
 {
     unsigned char line[256];

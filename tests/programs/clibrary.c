@@ -87,7 +87,7 @@ static void ask_with(const struct question *asked, size_t size)
     free(block);
 }
 
-/* Asks once for each of the first `most` requests for memory, with that one refused, until the call makes no more. Each answer must say so. */
+/* Asks once for each of the first `most` requests for memory, with that one refused, until the call makes fewer. Each must get `refused Memory`. */
 static void ask_refused(const struct question *asked, size_t most)
 {
     static const char refused[] = "refused Memory\n";
@@ -181,7 +181,7 @@ static void expect_misuse(void)
         fail("misuse leaves a line, or writes to the buffer");
 }
 
-/* Reads the next question, and returns whether there was one. A text without octets is a null pointer. */
+/* Reads the next question, and returns whether there was one. A text without octets is a null pointer. Ends the program if a text is cut off. */
 static int read_question(struct question *asked)
 {
     memset(asked, 0, sizeof *asked);

@@ -8,7 +8,7 @@
 
 static struct spki_limits limits_seen;
 static struct parts parts_seen;
-static size_t limits_count;
+static size_t limits_count; /* (of the structures of limits that spki.c passes on: always 1) */
 
 /* In place of the proved library's function: keeps the limits that spki.c has read, and opens a guard. */
 uint32_t spki_c_guard_open(struct spki_text list, uint32_t policy, const struct spki_limits *limits, size_t count, struct handle *guard,
@@ -58,8 +58,7 @@ uint32_t spki_c_string(struct spki_text t, const size_t *p, size_t d, size_t *a,
 
 /* The structures without a size never change. */
 _Static_assert(sizeof(struct spki_text) == 2 * sizeof(size_t) && sizeof(struct spki_signed) == 4 * sizeof(struct spki_text)
-                   && sizeof(struct spki_proven_key) == sizeof(struct spki_text),
-               "a structure that has no size has another one");
+                   && sizeof(struct spki_proven_key) == sizeof(struct spki_text), "a structure that has no size has another one");
 
 /* The octets of the limits and of a question in 0.2.0, which each library of this interface must read, and the most fields that main adds. */
 enum { LIMITS = 7 * sizeof(size_t), QUESTION = 12 * sizeof(size_t), MORE = 4 };

@@ -38,7 +38,7 @@ static void expect_misused(enum spki_status status, const char *what)
     expect_misused_unwritten(status, what);
 }
 
-/* A call of spki_guard_open must have been misuse: it has left no line in the buffer, and has set `no_guard` to null. */
+/* A call of spki_guard_open must have been misuse: it has left no line in the buffer, and has set `no_guard` to null. Resets that. */
 static void expect_no_guard(enum spki_status status, const char *what)
 {
     expect_misused(status, what);
@@ -46,7 +46,7 @@ static void expect_no_guard(enum spki_status status, const char *what)
     no_guard = guard;
 }
 
-/* A call of spki_guard_ask must have been misuse: it has left no line in the buffer, and has set `no_asked` to null. */
+/* A call of spki_guard_ask must have been misuse: it has left no line in the buffer, and has set `no_asked` to null. Resets that. */
 static void expect_no_question(enum spki_status status, const char *what)
 {
     expect_misused(status, what);
@@ -119,8 +119,7 @@ static void wrong_buffers(struct spki_text invalid)
 /* Limits and questions with a wrong size, and limits that are too high, must be misuse. */
 static void wrong_sizes(void)
 {
-    struct spki_limits limits[] = {SPKI_USUAL_LIMITS, SPKI_USUAL_LIMITS, SPKI_USUAL_LIMITS, SPKI_USUAL_LIMITS, SPKI_USUAL_LIMITS,
-                                   SPKI_USUAL_LIMITS};
+    struct spki_limits limits[] = {SPKI_USUAL_LIMITS, SPKI_USUAL_LIMITS, SPKI_USUAL_LIMITS, SPKI_USUAL_LIMITS, SPKI_USUAL_LIMITS, SPKI_USUAL_LIMITS};
     struct spki_question question = good_question();
     static const size_t sizes[] = {0, sizeof question - 1, sizeof question + 1, SIZE_MAX};
     limits[0].size = 0;

@@ -1,4 +1,5 @@
-// Calls spki.hpp, which owns handles in C++. Prints the line of what is wrong, and ends with 1 then.
+// Calls spki.hpp, which owns handles in C++. Prints the line of what is wrong, and ends with 1 then. The `list` gives key a all rights. The
+// `sequence` has a certificate by a for b, the `key` that mostly asks. The key c, `other`, has no right.
 #include <spki.hpp>
 
 #include <array>

@@ -31,7 +31,7 @@ static void answer(const struct spki_text *head, struct spki_text *of_fields, si
 {
     const struct spki_text names[] = {SPKI_LITERAL("example.com")};
     struct http_field *fields = malloc((count + 1) * sizeof *fields);
-    struct http_service service = {names, 1, 1792000000, http_nonces_take, http_nonces_open(4)}; /* (started when the table says) */
+    struct http_service service = {names, 1, 1792000000, http_nonces_take, http_nonces_open(4)}; /* (its start as in the table; room for 4 nonces) */
     struct http_request request = {head[METHOD], head[AUTHORITY], head[TARGET], fields, count, head[BODY].length > 0};
     struct http_proof proof = {.digest_length = 0};
     long long now = atoll(head[TIME].octets);

@@ -6,8 +6,8 @@
  *   REFUSE_STEP=1    a read or a write takes one octet at most
  *   REFUSE_IN=WORD   where the program was started by another word it is left alone
  *
- * At the end it writes to descriptor 3 how many were asked and refused of each, and how many requests for memory came before
- * the first read. A program that hangs is ended by SIGALRM after SECONDS. */
+ * At the end it writes to descriptor 3 how many were asked and refused of each, and how many requests for memory came before the first read. A
+ * program that hangs is ended by SIGALRM after SECONDS. A function named as one of the C library takes its place, and calls that one as `next`. */
 #define _GNU_SOURCE
 #include <dlfcn.h>
 #include <errno.h>
@@ -144,5 +144,5 @@ __attribute__((destructor)) static void report(void) {
     counting = 0;
     int length = snprintf(line, sizeof line, "%lu %lu %lu %lu %lu %lu %lu\n", memory.asked, memory.refused, reads.asked,
                           reads.refused, writes.asked, writes.refused, before_reads);
-    if (write(3, line, length) != length) return;
+    if (write(3, line, length) != length) return; /* (whoever reads descriptor 3 sees that the line is missing) */
 }

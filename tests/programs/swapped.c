@@ -26,7 +26,7 @@ static spki_guard *open_guard(bool grants)
 /* Asks under the lock. The answer must be that of the guard which was the current one then. */
 static void *ask(void *unused)
 {
-    static const int64_t now = 1704067200;
+    static const int64_t now = 1704067200; /* (2024-01-01) */
     static const struct spki_text words = {"ftp", 3};
     const struct spki_question question = {.size = sizeof question, .sequence = SPKI_LITERAL("(sequence)"), .words = &words, .word_count = 1,
                                            .key = spki_assume_key(SPKI_LITERAL("(public-key (test b))")), .seconds = &now};

@@ -1,4 +1,4 @@
-"""What attackers send: the certificates and keys that attacks.py names, made for a site."""
+"""What attackers send: certificates and keys that attacks.py names, made for a site where Ann may read and write /web/ and Eve has no right."""
 import base64
 import os
 import re
@@ -62,8 +62,8 @@ def in_braces(value: Any) -> str:
 
 
 def sequence(site: Site, by: str, to: str, tag: str, *, days: int = 9, begins: int = 0, chain: Value | None = None) -> Any:
-    """The value of a sequence: the members of the sequence `chain` if it is given, a certificate by the key of `by` for the key of `to`, and its
-    signature. The certificate has the tag, does not delegate, and is valid from `begins` to `days`, in days from now."""
+    """The value of a sequence: the members of the sequence `chain` if it is given, a certificate by the key `by` for the key `to`, both names of
+    files in keys/, and its signature. The certificate has the tag, does not delegate, and is valid from `begins` to `days`, in days from now."""
     signer, subject = (signer_at(site.at(f"keys/{who}")) for who in (by, to))
     _, node = read_text(tag.encode())
     return signed_sequence(certificate_of(signer.key, subject.key, fields_of(node.value, now(begins), now(days))), signer, chain)
@@ -81,8 +81,8 @@ class Attackers:
     def sequences(self) -> dict[str, str]:
         """The texts for the names that attacks.py has in braces: sequences in braces, Ann's certificate for TLS in `form`, the hash of her key."""
         site = self.site
-        good = sequence(site, "ann", "ben", READ)
-        text = canonical(good)  # (`good[1]` is the certificate, and `text[-8]` one of the last octets of the signature's value)
+        good = sequence(site, "ann", "ben", READ)  # (`good[1]` is the certificate. 17 of them and 65 lists in one another are one more than allowed)
+        text = canonical(good)  # (`text[-8]` is one of the last octets of the signature's value)
         values: dict[str, Any] = {
             "ben": good, "ended": sequence(site, "ann", "ben", READ, days=-1, begins=-2), "early": sequence(site, "ann", "ben", READ, begins=5),
             "tag": text.replace(b"4:read", b"5:write"), "value": text[:-8] + bytes([text[-8] ^ 1]) + text[-7:],

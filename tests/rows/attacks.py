@@ -1,5 +1,5 @@
 """Attacks on the examples of web servers: what is tried, who tries it, and the octets that are sent. None but those of GRANTED may be answered with
-a status 2xx, or with the content of a file.
+a status 2xx, or with the content of a file. Ann may read and write /web/, and the robot may write /web/out/. Eve has no right.
 
 In the octets, {ann} is Ann's certificate as the server passes it, {key} the hash of her key, and {ben} the sequence by which Ann lets Ben read /web/.
 The others are sequences that give nothing: see attackers.py. Lines end in CR LF (`request` and `raw` make them), but for one attack."""
@@ -77,7 +77,7 @@ def attacks_by_headers() -> Iterator[Plain]:
 
 
 def attacks_by_doubled_parts() -> Iterator[Plain]:
-    """Requests with a header twice, two requests in one, lines that are no header, and parts that are too long."""
+    """Requests in which a header or a whole request comes twice, a line or a length is malformed or too long, or an address is there for the path."""
     shown, basic = "Authorization: SPKI {ben}", "Authorization: Basic YW5uOmFubg=="
     yield "two headers with certificates, the first of another scheme", "ben", request(WEB, basic, shown)
     yield "two headers with certificates, the first of others", "ben", request(WEB, "Authorization: SPKI {ended}", shown)
@@ -181,8 +181,8 @@ LEAVING = "/.well-known/spki-chain"
 
 
 def attacks_on_left_certificates() -> Iterator[Plain]:
-    """Requests at LEAVING, where a client leaves certificates (at most 8,192 octets) for later requests. Some servers pass these on without a
-    question to the daemon: so no question may be decided there, and no certificates may be left without a signature."""
+    """Requests at LEAVING, where a client leaves certificates (at most 8,192 octets) for later requests. Some web servers pass these on without
+    asking the daemon whether they are allowed. So the daemon must decide no request there, and keep no certificates without a signature."""
     claims = ("X-Original-Method: GET", f"X-Original-URI: {WEB}", "X-Original-Host: localhost", "X-Forwarded-Method: GET", f"X-Forwarded-Uri: {WEB}",
               "X-Forwarded-Host: localhost", "X-Client-Cert: {ann}")
     for method in ("PUT", "GET", "POST", "DELETE", "HEAD", "OPTIONS", "COPY"):
@@ -206,7 +206,7 @@ def with_statuses(attacks: Iterator[Plain], must: set[int]) -> Iterator[Attack]:
 
 
 def all_attacks() -> Iterator[Attack]:
-    """All attacks. A path that has more than plain characters, or `..`, may also be refused by the server itself, or not be found."""
+    """All attacks. One by a path with `..` or other than plain characters, or at LEAVING, the server may also refuse by itself, or find nothing."""
     yield from with_statuses(attacks_by_headers(), DENIED)
     yield from with_statuses(attacks_by_doubled_parts(), MALFORMED)
     yield from with_statuses(attacks_by_methods(), DENIED)

@@ -139,7 +139,8 @@ def sizes():
 
 
 def long_lists():
-    """Yields (name, text, what `check` answers): lists of eight entries that do not grant, all for one reason, and of a ninth, which may."""
+    """Yields (name, text, what `check` answers): lists of eight entries that do not grant, all for one reason, and of a ninth, which may. (From eight
+    entries on an earlier version decided in another way.)"""
     rows, items = chain()
     ninth = (0, "yes entry 9\n")
     over = '(not-after "2023-12-31_23:59:59")'
@@ -236,8 +237,7 @@ def malformed():
         (f"(by (public-key (test a) (uri x)) {HASH} sig)", "KeyUris"), (f"(by {key('a')} (hash md5 x) sig)", "HashAlg"),
         (f"(by {key('a')} (hash sha256 x) sig)", "DigestLength"), (f"(by {key('a')} {digest('x', 'sha1')} sig)", "HashAlg"),
         (f"(by {key('a')} {digest('x', 'sha512')} sig)", "HashAlg"), (f"(by {key('a')} (hash sha1 x) sig)", "DigestLength"),
-        (f"(by {key('a')} (hash) sig)", "Shape"), (f"(by {HASH} {HASH} sig)", "Shape"), (f"({key('a')} {HASH} sig)", "Shape"),
-    ]
+        (f"(by {key('a')} (hash) sig)", "Shape"), (f"(by {HASH} {HASH} sig)", "Shape"), (f"({key('a')} {HASH} sig)", "Shape")]
     good = f"(by {key('a')} {HASH} (any (value)))"
     for written, kind in faults:
         yield f"row {written}", case("", written), refused(f"accepted 1 {kind}")

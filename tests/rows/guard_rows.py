@@ -74,18 +74,14 @@ def of_verifiers() -> Iterator[CallRow]:
         ("not-accepted: no row", "judge", none, NO_ROWS, b"1 NotAccepted"),
         ("not-accepted: another signer", "judge", other, rows_of(other), b"1 SignerDiffers"),
         ("not-accepted: another signer, all accepted", "judge", other, b"all", b"1 SignerDiffers"),
-        ("not-accepted: none accepted", "judge", right, NO_ROWS, b"1 NotAccepted"),
-        ("first-run", "decide", first_run(), NO_ROWS, b"Yes(1)"),
-        ("first-run, broken", "decide", first_run(), b"broken", b"Yes(1)"),
-        ("delegation, none accepted", "decide", none, NO_ROWS, b"No"),
-        ("delegation, all accepted", "decide", none, b"all", b"Yes(1)"),
-        ("delegation, another signer", "decide", delegation("", KB), b"all", b"No"),
+        ("not-accepted: none accepted", "judge", right, NO_ROWS, b"1 NotAccepted"), ("first-run", "decide", first_run(), NO_ROWS, b"Yes(1)"),
+        ("first-run, broken", "decide", first_run(), b"broken", b"Yes(1)"), ("delegation, none accepted", "decide", none, NO_ROWS, b"No"),
+        ("delegation, all accepted", "decide", none, b"all", b"Yes(1)"), ("delegation, another signer", "decide", delegation("", KB), b"all", b"No"),
         ("shorter-request", "explain", case(HOST, asks=KA), NO_ROWS, b"[TagLacks]"),
         ("shorter-request, whole", "explain", case(HOST, asks=KA, request="(ftp host dir)"), NO_ROWS, b"[Grants]"),
         ("second-entry", "explain", case(entry("c", "(tag (*))") + ALL, row(C1, KA), signed(C1, KA), KA), canonical(f"(accepted {row(C1, KA)})"),
          b"[Stopped { item: 1, cause: NotIssuer }, NotTheKey]"),
-        ("not-accepted", "explain", none, NO_ROWS, b"1 NotAccepted"),
-        ("not-accepted", "reduce_case", none, NO_ROWS, b"1 NotAccepted"),
+        ("not-accepted", "explain", none, NO_ROWS, b"1 NotAccepted"), ("not-accepted", "reduce_case", none, NO_ROWS, b"1 NotAccepted"),
         ("reduced-sets", "reduce_case", *case_of_sets("(* set write (* prefix re))"),
          b"(4:five(7:subject(10:public-key(4:test1:b)))(3:tag(1:*3:set4:read5:write)))\n"),
         ("reduced-sets, other tag", "reduce_case", *case_of_sets("x"), b"1 NoTag\n"),
@@ -96,7 +92,7 @@ def of_verifiers() -> Iterator[CallRow]:
         ("delegation, none accepted", none, NO_ROWS, b"No"), ("delegation, all accepted", none, b"all", b"Yes(1)"),
         ("delegation, broken", none, b"broken", b"refused Memory"), ("delegation, another signer", delegation("", KB), b"all", b"No"),
     ]:
-        parts = parts_of(text)
+        parts = parts_of(text)  # (list, sequence, key, request, moment, policy)
         for call in ("PreparedQuestion::decide", "PreparedQuestion::grant"):
             yield CallRow(f"calls/cases:{name}: {call}", call, (parts[0], parts[5], *NO_LIMITS, *parts[1:5], verifier), wanted)
     for call in ("decide", "explain", "reduce_case"):
@@ -128,7 +124,7 @@ def of_separate_rows() -> Iterator[CallRow]:
 def of_revoked_keys() -> Iterator[CallRow]:
     """What `decide_unrevoked`, and `answer_both` to KB and to KA, say of a case in which KA delegates its right to KB, with some keys revoked."""
     text = case(entry("a"), row(C1, KA), signed(C1, KA))
-    parts, rows = parts_of(text)[:5], rows_of(text)
+    parts, rows = parts_of(text)[:5], rows_of(text)  # (list, sequence, key, request, moment)
     ka, kb = canonical(KA), canonical(KB)
     for revoked, wanted in (((), b"Yes(1)"), ((kb,), b"Yes(1)"), ((kb, ka), b"No")):
         yield CallRow(f"calls/callers:decide_unrevoked {len(revoked)}", "decide_unrevoked", (*parts, rows, *revoked), wanted)
@@ -204,8 +200,8 @@ def of_questions() -> Iterator[CallRow]:
 
 
 def of_question(place: str, wish: str, parts: list[bytes], rows: bytes, answer: bytes, listed: list[guard.Signed]) -> Iterator[CallRow]:
-    """The rows of one question, by each call that can answer it. `parts` are as `parts_of` returns them, `rows` is the text of the accepted
-    signatures, `answer` are the lines that the model answers, and `listed` the signatures of the question, which marks accept or not."""
+    """The rows of one question, by each call that can answer it. `parts`: list, sequence, key, request, moment and policy. `rows`: the text of the
+    accepted signatures. `answer`: the lines that the model answers. `listed`: the signatures of the question, which marks accept or not."""
     opening, question, marks, result = (parts[0], parts[5], *NO_LIMITS), tuple(parts[1:5]), marks_of(rows, listed), in_debug(wish, answer)
     yield CallRow(f"{place} {wish}", f"PreparedQuestion::{wish}", (*opening, *question, rows), result)
     yield CallRow(f"{place} {wish}_by", f"PreparedQuestion::{wish}_by", (*opening, *question, marks), result)

@@ -33,6 +33,7 @@ def lengths():
         yield name, "canonical", text, (0, canonical)
         yield name, "advanced", text, (0, b"x" * len(canonical.split(b":")[1]) + b"\n")
         yield name, "transport", text, (0, braced(canonical) + b"\n")
+        # (the canonical form, which these commands need, is longer than the text in quotes, and so over the limit)
         for command, shape in STRUCTURES.items():
             yield name, command, text, refused(shape if len(canonical) <= MOST_OCTETS else "form TooLong")
         for more in (1, 2, MOST_OCTETS):

@@ -29,8 +29,7 @@ REFUSED = [
     ((MANY, "(sequence)", KA, "()", "x"), "Request", None, "EmptyList"),
     ((MANY, "(sequence)", KA, "(a [b]c)", "x"), "Request", None, "Hint"),
     ((MANY, "(sequence)", KA, "a", "x"), "At", 0, "BadDate"),
-    ((MANY, "(sequence)", KA, "a", '"2024-13-01_00:00:00"'), "At", 0, "BadDate"),
-]
+    ((MANY, "(sequence)", KA, "a", '"2024-13-01_00:00:00"'), "At", 0, "BadDate")]
 PART = {"Acl": "access list", "Sequence": "sequence", "Key": "key", "Request": "request", "At": "moment"}
 
 
@@ -137,7 +136,7 @@ def of_limits() -> Iterator[CallRow]:
             yield row_by_strings(f"octets {length} {octets}", list_of(b"(1:*)"), words, answer, octets=number(octets))
     text = sets_case()
     yield CallRow("calls/limits:sets", "decide", (text, rows_of(text)), b"Yes(1)")
-    parts = parts_of(text)
+    parts = parts_of(text)  # (list, sequence, key, request, moment, policy)
     # (tags of 5 and of 4 nodes are intersected: their product is 20)
     for nodes, explained in ((1_000_000, b"[Grants]"), (20, b"[Grants]"), (19, b"Decision(TooLarge): the tags are too large"),
                              (0, b"Decision(TooLarge): the tags are too large")):

@@ -14,13 +14,12 @@ LANGUAGES = ("c", "cpp", "rust", "go", "python")
 FUNCTIONS = {"c": ("static const char *row_{}(void)\n{{", "    ", "}"), "cpp": ("static const char *row_{}()\n{{", "    ", "}"),
              "rust": ("fn row_{}() -> Outcome {{", "    ", "}"), "go": ("func row_{}() string {{", "\t", "}"),
              "python": ("\n\ndef row_{}() -> str:", "    ", "")}
-# The program behind the functions, and one of its calls: each writes the number of a row and what came of it.
+# Of each language what begins the main function, one of its calls, which writes the number of a row and its outcome, and what ends it.
 MAINS = {
     "c": ("int main(void)\n{\n", '    printf("%d %s\\n", {0}, row_{0}());\n', "    return 0;\n}\n"),
     "cpp": ("#include <cstdio>\nstatic void call(int place, const char *(*row)())\n{\n    const char *result = \"is refused\";\n    try {\n"
             "        result = row();\n    } catch (const std::exception &) {\n    }\n    std::printf(\"%d %s\\n\", place, result);\n}\n"
-            "int main()\n{\n",
-            "    call({0}, row_{0});\n", "    return 0;\n}\n"),
+            "int main()\n{\n", "    call({0}, row_{0});\n", "    return 0;\n}\n"),
     "rust": ("fn main() {\n", '    println!("{0} {{}}", row_{0}().unwrap_or("is refused"));\n', "}\n"),
     "go": ("func main() {\n", "\tfmt.Println({0}, row_{0}())\n", "}\n"),
     "python": ("\n\nfor place, row in {\n", "    {0}: row_{0},\n", "}.items():\n    try:\n        print(place, row())\n"
