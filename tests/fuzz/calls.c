@@ -340,7 +340,7 @@ static void compare_with_case(struct input *in, const struct parts *parts, const
     struct text_args with = {SPKI_CHECK, {0}, lent(rows)};
     for (int own = 0; own < 2; own++) {
         struct answer answer;
-        whole[own].length = 0;
+        whole[own].length = whole[own].lacks_room = 0;
         begin_list(&whole[own], "case");
         put_part(in, &whole[own], NULL, &parts->list);
         put(&whole[own], own ? (const char *)rows->octets : "(8:accepted)", own ? rows->length : 12);
@@ -354,7 +354,7 @@ static void compare_with_case(struct input *in, const struct parts *parts, const
         with.text = lent(&whole[own]);
         answer = answer_of(in, own ? call_answer : call_check_accepted, &with);
         /* (what has no room is left out of `whole`, so it is another case then) */
-        expect(are_same(&answer, decision) || is_line(&answer, "refused TooLarge\n") || whole[own].length > MOST_OCTETS - 64,
+        expect(are_same(&answer, decision) || is_line(&answer, "refused TooLarge\n") || whole[own].lacks_room || rows->lacks_room,
                "the guard decides otherwise than the case");
         free(answer.octets);
     }
@@ -377,7 +377,7 @@ static void decide(struct input *in, const struct parts *parts, spki_asked *aske
     const size_t count = spki_asked_count(asked);
     const bool is_possible = spki_asked_possible(asked);
     size_t unmarked;
-    rows.length = 0;
+    rows.length = rows.lacks_room = 0;
     expect(!count || !spki_asked_granted(asked), "a grant without a valid signature");
     unmarked = mark_some(in, asked, &rows);
     decision = answer_of(in, call_asked, &with);

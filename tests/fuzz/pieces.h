@@ -23,6 +23,7 @@ struct input {
 struct text {
     size_t length;
     unsigned char octets[MOST_OCTETS];
+    unsigned lacks_room; /* whether `put` has left out something */
 };
 
 /* The parts of a question. `is_worded`: a call gets the request as strings, not as a text. `is_in_seconds`: it gets the moment in seconds. */
@@ -51,9 +52,10 @@ static unsigned mostly(struct input *in, unsigned usual, unsigned count)
     return below(in, 4) == 3 ? below(in, count) : usual;
 }
 
-/* Adds octets as they are to a text, or nothing if they have no room. */
+/* Adds octets as they are to a text, or nothing if they have no room, and notes that. */
 static void put(struct text *to, const void *octets, size_t length)
 {
+    to->lacks_room |= length > sizeof to->octets - to->length;
     if (length > sizeof to->octets - to->length)
         return;
     memcpy(to->octets + to->length, octets, length);
