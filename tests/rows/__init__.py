@@ -84,7 +84,7 @@ def fault_of(program: str, row: Row) -> str | None:
     """What is wrong with the program's answer to a row, None if nothing is."""
     status, answer = run(program, row.command, row.text)
     fault = fault_of_other_commands(program, row) if (status, answer) == (row.status, row.answer) else (
-        f"wanted {row.status} {shown(row.answer)}\ncame   {status} {shown(answer)}")
+        f"expected {row.status} {shown(row.answer)}\nactual   {status} {shown(answer)}")
     return fault and f"{row.place}: {row.command}\ntext   {shown(row.text)}\n{fault}"
 
 
@@ -99,7 +99,7 @@ def fault_of_other_commands(program: str, row: Row) -> str | None:
         _, written = run(program, form, row.text)
         status, answer = run(program, "canonical", written)
         if (status, answer) != (0, row.answer):
-            return f"what {form} writes is {shown(written)}\nwanted canonical to read the same value again\ncame   {status} {shown(answer)}"
+            return f"what {form} writes is {shown(written)}\nexpected canonical to read the same value again\nactual   {status} {shown(answer)}"
     return None
 
 

@@ -139,7 +139,7 @@ def faults_of_answers(asked, answers):
         return f"{len(answers)} answers to {len(asked)} questions"
     faults = [(each, answer) for each, answer in zip(asked, answers) if answer != each.wanted]
     return "\n".join(f"{each.command}, {each.name}\ntext   {each.access_list[:300]!r} {each.sequence[:500]!r} {each.key[:200]!r} {each.request!r} "
-                     f"{each.moment!r}\nwanted {each.wanted[:300]!r}\ncame   {answer[:300]!r}" for each, answer in faults)
+                     f"{each.moment!r}\nexpected {each.wanted[:300]!r}\nactual   {answer[:300]!r}" for each, answer in faults)
 
 
 # ---- Python

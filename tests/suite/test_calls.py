@@ -68,7 +68,7 @@ class OfCalls(unittest.TestCase):
         row, answer = self.rows[name], self.answers.get(name, b"no answer")
         if answer != row.answer:
             texts = "\n".join(f"text   {shown(text)}" for text in row.texts)
-            self.fail(f"{row.place}: {row.call}\n{texts}\nwanted {shown(row.answer)}\ncame   {shown(answer)}")
+            self.fail(f"{row.place}: {row.call}\n{texts}\nexpected {shown(row.answer)}\nactual   {shown(answer)}")
 
 
 def row_test(name: str) -> Callable[[OfCalls], None]:

@@ -161,8 +161,8 @@ def faults_of_answers(words, questions):
     if status or len(answers) != len(questions):
         return f"status {status} after {len(answers)} of {len(questions)} answers: {errors[-2000:]}"
     faults = [(asked, answer, wanted) for (asked, wanted), answer in zip(questions, answers) if answer != wanted]
-    return "\n".join(f"{place}\ntext   {text[:1000]!r} {rows[:500]!r}\nwanted {wanted[0]} {wanted[1][:300]!r}\n"
-                     f"came   {answer[0]} {answer[1][:300]!r}" for (place, _, text, rows), answer, wanted in faults)
+    return "\n".join(f"{place}\ntext   {text[:1000]!r} {rows[:500]!r}\nexpected {wanted[0]} {wanted[1][:300]!r}\n"
+                     f"actual   {answer[0]} {answer[1][:300]!r}" for (place, _, text, rows), answer, wanted in faults)
 
 
 def symbols(library, *words, nm="nm"):

@@ -157,7 +157,7 @@ class Refusals(unittest.TestCase):
         first_place, offsets = output.split("\n")[1] if "\n" in output else "", PLACE.findall(output)
         is_right = f"refused {wanted}\n" in output and first_place.startswith(f"line {place[0]}, column {place[1]},") and words in output
         if not is_right or len(set(offsets)) < len(offsets):
-            self.fail(f"text   {text!r}, given {refusal!r}\nwanted {wanted} at line {place[0]}, column {place[1]}, {words}\ncame   {output}")
+            self.fail(f"text   {text!r}, given {refusal!r}\nexpected {wanted} at line {place[0]}, column {place[1]}, {words}\nactual   {output}")
 
     def check_refusal(self, place: str, command: str, text: bytes, wanted: tuple[int, bytes]) -> None:
         """`locate` must find the refusal that a command answers to a text. It must find none if the command answers otherwise, or by a refusal that
@@ -167,7 +167,7 @@ class Refusals(unittest.TestCase):
         show_places(wrong, inner, places)
         status, answer = wanted
         refusal = answer if status == 2 and not has_no_place(answer) else b""
-        self.assertEqual(located, refusal, f"{place}: {command}\ntext   {text[:1000]!r}\nwanted {refusal!r}\ncame   {located!r}")
+        self.assertEqual(located, refusal, f"{place}: {command}\ntext   {text[:1000]!r}\nexpected {refusal!r}\nactual   {located!r}")
 
     def test_statuses(self) -> None:
         """The exit status is 0 if the form is right, 1 if a place is shown, and 2 if the refusal that `locate` is given is another one."""
