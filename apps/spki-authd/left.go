@@ -96,8 +96,8 @@ func sequenceInBody(body []byte) (string, error) {
 }
 
 // keepCertificates keeps the certificates that a client leaves, and returns the record with the answer. `key` is the one that has signed the request, by
-// `proof`. Strangers can leave certificates too, of keys that they made. So these requests have nonces of their own, and no signature of a certificate
-// is verified where the sequence is known or has no room.
+// `proof`. Strangers can leave certificates too, of keys that they made. So the nonces of these requests have a memory apart, which strangers may fill
+// without harm to other requests, and no signature of a certificate is verified where the sequence is known or has no room.
 func (d *decider) keepCertificates(result record, key guard.ProvenKey, proof *httpsig.Proof, inquiry *inquiry) record {
 	result.Target = inquiry.target
 	if err := d.requests.leaving.Take(proof); err != nil {

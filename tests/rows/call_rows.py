@@ -39,7 +39,7 @@ LINE = b"yes entry 1\n"
 
 
 class CallRow(NamedTuple):
-    """A row: its place (`calls/NAME:LINE`), the name of a call, its texts, and the answer that is expected."""
+    """A row: its place (`calls/NAME:LINE`, or `calls/` and what it tests), the name of a call, its texts, and the answer that is expected."""
 
     place: str
     call: str

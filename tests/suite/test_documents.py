@@ -97,7 +97,7 @@ OF_SPECS = re.compile(r"^ *(?:(?:abbrev|pub|record|data|unfoldable) )*([\w-]+)\b
 
 
 def names_in_specs(paths: list[str]) -> set[str]:
-    """The names that specifications define, by their paths: also of fields and constructors."""
+    """The names that the specifications at these paths define, also of fields and constructors. Any other first word of a line is among them too."""
     return {name for path in paths for names in OF_SPECS.findall(text_of(path)) for name in names if name}
 
 

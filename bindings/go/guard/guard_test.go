@@ -436,8 +436,8 @@ func TestRequestAndTimeAsTexts(t *testing.T) {
 	}
 }
 
-// TestRefusals spoils one part of a question at a time, and then the access list. Each is a refusal, whose line a row has as its key. The time of
-// BadDate is in the year 36812.
+// TestRefusals spoils one part of a question at a time, and then the access list. Each is a refusal. A row has the line of a question's refusal as its
+// key. The time of BadDate is in the year 36812.
 func TestRefusals(t *testing.T) {
 	opened := openGuard(t, list)
 	for line, change := range map[string]func(*guard.Question){
