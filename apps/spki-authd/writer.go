@@ -159,8 +159,9 @@ func (w *writer) watch() {
 	}
 }
 
-// endLate ends the waiting of callers whose lines are late, and drops late batches that are not kept, which are those of write. A waiting batch that is not
-// kept takes no further line: so a line that is added from now on has its whole time. The timer calls it.
+// endLate ends the waiting of callers whose lines are late, and drops late batches that are not kept, which are those of write. From now on a waiting
+// batch of write takes no further line. So no line is dropped with an old batch, and each has at least nine tenths of the patience. A line of offer may
+// join an old batch, which is still written. The timer calls it.
 func (w *writer) endLate() {
 	w.mutex.Lock()
 	defer w.mutex.Unlock()

@@ -1,8 +1,8 @@
 """What the package `spki` does beside the library: opened questions, marks, its buffers, its types and its exceptions.
 
 By the access list LIST key a may do everything, and may delegate it. PAIR is a certificate of a for key b with its signature, SIGNED what a verifier
-gets of the two, and SHOWN the sequence of PAIR alone. OWN is the same of a for itself, which may precede PAIR. FORGED is a sequence for key c, whose
-signature is not valid. `new_question` makes a question by b that shows SHOWN, but for the parts that a test names. `Guard.ask` opens a question: a
+gets of the two, and SHOWN the sequence of PAIR alone. OWN is a certificate of a for itself that delegates, so that PAIR may follow it. FORGED is a
+sequence for key c, whose signature is not valid. `new_question` makes a question by b that shows SHOWN, but for the parts that a test names. `Guard.ask` opens a question: a
 test marks each of its signatures that counts as valid by its place, from 0. An item is a certificate or a signature of a sequence, from 1.
 
 `tests/suite/test_bindings.py` compares the answers to many questions with the program's. Usage, in this folder:
@@ -344,8 +344,8 @@ class OpenedQuestions(unittest.TestCase):
             self.assertEqual(({id(signature.key) for signature in signatures}, len(signatures)), ({id(signatures[0].key)}, 40))
 
     def test_each_call_holds_the_lock(self):
-        """Each call of the library on an opened question is made while its lock is held, so none is made while another thread marks a signature. The
-        GIL alone would not ensure that in a free-threaded Python."""
+        """Each call of the library that reads a signature of an opened question, marks one or answers is made while the question's lock is held: so
+        none is made while another thread marks a signature. A free-threaded Python has no other lock that would ensure it."""
         opened, is_held = self.guard.ask(new_question()), {}
         with contextlib.ExitStack() as patches:
             for name in ("signature", "mark", "possible", "decide", "explain", "reduce"):

@@ -237,9 +237,10 @@ def holder_of(principal: Value, names: Iterable[Value], keys: Keys) -> Holder:
 
 
 def chains(entries: Iterable[Terms], certificates: list[Signed], keys: Keys, key: Value, steps: Steps, most: int = 16) -> Iterator[list[Signed]]:
-    """Yields the chains of at most `most` certificates that lead from an entry to a key, the shortest first. By default a service takes 16 of them. A
-    holder is who has the right, a key or a name. No chain passes one twice: without the certificates in between it would give at least as much. The
-    search ends when no steps are left, and then sets `steps.is_cut`."""
+    """Yields the chains of at most `most` certificates that lead from an entry to a key, the shortest first: 16 is the most that a service takes by
+    default. Only issuers and subjects are compared: tags, times, delegation and signatures are for the caller to test. A holder is who has the right,
+    a key or a name. No chain passes one twice: without the certificates in between it would give at least as much. The search ends when it needs a
+    step and none is left, and then sets `steps.is_cut`."""
     # (the certificates by their issuers as holders, a key or a key and the name that is defined, each with its subject as a holder)
     wanted, by_issuer = holder_of(key, [], keys), dict[Holder, list[tuple[Signed, Holder]]]()
     for signed in certificates:
