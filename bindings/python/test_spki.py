@@ -2,8 +2,9 @@
 
 By the access list LIST key a may do everything, and may delegate it. PAIR is a certificate of a for key b with its signature, SIGNED what a verifier
 gets of the two, and SHOWN the sequence of PAIR alone. OWN is a certificate of a for itself that delegates, so that PAIR may follow it. FORGED is a
-sequence for key c, whose signature is not valid. `new_question` makes a question by b that shows SHOWN, but for the parts that a test names. `Guard.ask` opens a question: a
-test marks each of its signatures that counts as valid by its place, from 0. An item is a certificate or a signature of a sequence, from 1.
+sequence for key c, whose signature is not valid. `new_question` makes a question by b that shows SHOWN, but for the parts that a test names.
+`Guard.ask` opens a question: a test marks each of its signatures that counts as valid by its place, from 0. An item is a certificate or a signature
+of a sequence, from 1.
 
 `tests/suite/test_bindings.py` compares the answers to many questions with the program's. Usage, in this folder:
 SPKI_LIBRARY=../../crates/spki_c/out/libspki_c.so python3 -m unittest
