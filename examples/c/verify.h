@@ -25,13 +25,13 @@ enum { VERIFY_HASH = 32 };
 SPKI_RESULT bool verify_hash(struct spki_text octets, unsigned char hash[VERIFY_HASH]);
 
 /* The decision of a guard on a question. Only the status SPKI_YES grants. A question that is refused is a no. No signature is verified if the request
- * would be denied even if all were valid. */
+ * would be denied even if all were valid. The line of the decision is not used. */
 SPKI_RESULT static inline struct spki_decision verify_decides(const spki_guard *guard, const struct spki_question *question)
 {
     struct spki_decision decision = {SPKI_NO, INT64_MIN};
     struct spki_signed signature;
     spki_asked *asked;
-    char line[64]; /* (of the decision; it is not read) */
+    char line[64];
     if (spki_guard_ask(guard, question, &asked, NULL, 0, NULL) != SPKI_DONE)
         return decision;
     const size_t count = spki_asked_possible(asked) ? spki_asked_count(asked) : 0;

@@ -4,8 +4,10 @@ example, is run too, and its lines are compared. By the list of the site Ann may
 Ann, and Eve nothing. `self.site.status(WHO, METHOD, PATH)` is the status of the answer to a request of WHO: 2xx is a grant, 401 and 403 are denials,
 and 5xx says that nothing has decided. `waits_for(WHAT, IS_SO)` fails the test if that is not so after 600 seconds."""
 import contextlib
+import glob
 import json
 import os
+import pathlib
 import re
 import signal
 import socket
@@ -359,8 +361,14 @@ class Limits(OfSite):
 
     def test_daemon_that_hangs(self) -> None:
         """Where the daemon does not answer, a client sees 500 after proxy_read_timeout."""
+        def is_stopped() -> bool:
+            """Whether each thread of the daemon is stopped. Until then one may still answer."""
+            threads = glob.glob(f"/proc/{self.site.daemon.pid}/task/*/stat")
+            return all(pathlib.Path(thread).read_text().rpartition(")")[2].split()[0] == "T" for thread in threads)
+
         self.site.daemon.send_signal(signal.SIGSTOP)
         try:
+            waits_for("the daemon is stopped", is_stopped)
             self.assertEqual(self.site.status("ann", "GET", "/web/index.html"), 500)
         finally:
             self.site.daemon.send_signal(signal.SIGCONT)
