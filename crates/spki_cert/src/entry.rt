@@ -23,7 +23,7 @@ impl<'a> Clone for Subject<'a> {
     ghost is_clone = { λ subject copy. copy ≡ subject };
 
     /// Returns a copy. Only the names that were put in front (see `Names`) are copied: both share the names that were read, and borrow the
-    /// octets. Err if memory ran out, or if there are too many copies to count.
+    /// octets. Err if memory ran out, or if a shared part has too many owners to count.
     fn clone(&self) -> Result<Subject<'a>, AllocError> {
         Ok(Subject {
             principal: self.principal.share(),

@@ -180,7 +180,7 @@ impl<'a> Clone for Names<'a> {
     ghost is_clone = { λ names copy. copy ≡ names };
 
     /// Returns a copy. Only the names that were put in front are copied; those that were read are shared. Err if memory ran out, or if
-    /// there are too many copies to count.
+    /// a shared part has too many owners to count.
     fn clone(&self) -> Result<Names<'a>, AllocError> {
         let read = match &self.read {
             None => None,

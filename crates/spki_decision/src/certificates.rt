@@ -53,7 +53,7 @@ impl<'s, 'a> Certificate<'s, 'a> {
 
     /// The certificate's tuple, a 5-tuple or a 4-tuple (RFC 2693, sections 6.1 and 6.2). A tuple has a key as its issuer, and a certificate
     /// may name it by a hash, so the caller passes the issuer's key as `holder`. Whether the certificate's issuer names this key is not
-    /// tested. Err if memory ran out, or if a tag or a list of names has too many copies to count.
+    /// tested. Err if memory ran out, or if a tag or a list of names has too many owners to count.
     pub fn step(&self, holder: &Key<'a>) -> Result<Step<'a>, AllocError>
         ensures { IfOk result (λ step. step_tuple step ≡ tuple_of holder.now (certificate_of self.now)) }
     {
@@ -66,7 +66,7 @@ impl<'s, 'a> Certificate<'s, 'a> {
 
 /// An authorization certificate's 5-tuple, as a step. Its issuer is the key `holder`: the certificate may name its issuer by a hash, and a
 /// tuple has a key. Whether the certificate's issuer names this key is not tested. Err if memory ran out, or if a tag or a list of names has
-/// too many copies to count.
+/// too many owners to count.
 fn auth_step<'a>(cert: &AuthCert<'a>, holder: &Key<'a>) -> Result<Step<'a>, AllocError>
     ensures { IfOk result (λ step. step_tuple step ≡ five (auth_tuple holder.now cert.now)) }
 {
@@ -80,7 +80,7 @@ fn auth_step<'a>(cert: &AuthCert<'a>, holder: &Key<'a>) -> Result<Step<'a>, Allo
 }
 
 /// A name certificate's 4-tuple, as a step. It defines the name in the name space of `holder`, which must be the issuer's key: the issuer that
-/// the certificate names is not compared with it. Err if memory ran out, or if a list of names has too many copies to count.
+/// the certificate names is not compared with it. Err if memory ran out, or if a list of names has too many owners to count.
 fn name_step<'a>(cert: &NameCert<'a>, holder: &Key<'a>) -> Result<Step<'a>, AllocError>
     ensures { IfOk result (λ step. step_tuple step ≡ four (name_tuple holder.now cert.now)) }
 {

@@ -50,8 +50,8 @@ impl Decision {
 ///
 /// `TooLarge` only if the certificates pass their tests, and one of two things is true of an entry with no granted entry before it. The tag of a
 /// certificate is too large for what the entry and the certificates before it became: the product of the nodes of both tags is over the
-/// case's `most_nodes`. Or the work of the entries up to this one, without those that are spared by `uncounted`, is over `most_work`. `Memory`
-/// if memory ran out, here or in the verifier, or if there are too many copies to count.
+/// case's `most_nodes`. Or the work of the entries up to this one is over `most_work`, where those with small chains, as `Case::uncounted` says,
+/// do not count. `Memory` if memory ran out, here or in the verifier, or if a shared part has too many owners to count.
 #[tactic(auto, using(crate::proofs::EntryChains::one_fails, crate::proofs::CertificateTests::none_shown))]
 pub fn decide<V: Verifier>(alloc: Global, case: &Case, verifier: &V) -> Result<Decision, GuardFault>
     ensures exact { IfOk result (IsDecision (model case.now) (V.accepted verifier.now)) }
@@ -70,13 +70,13 @@ pub fn decide<V: Verifier>(alloc: Global, case: &Case, verifier: &V) -> Result<D
 
 /// The first entry, from 1, of a case's access list that grants the request with certificates whose tuples are `steps`.
 /// `No` if no entry does. `ChainRequirement` decides without intersections, and refuses nothing. But `decide` must refuse an entry whose
-/// intersections are too large (its clause `within_limit`), so `require_small` tests each entry up to the first that grants, and no later one. `blank`
-/// opens the count of ticks that `fold_entry` needs. It exists only in contracts, and is dropped afterwards.
+/// intersections are too large (its clause `within_limit`), so `require_small` tests each entry up to the first that grants, and no later one.
+/// `blank` opens the count of ticks that `fold_entry` needs. It exists only in contracts, and is dropped afterwards.
 ///
 /// # Errors
 ///
 /// `TooLarge` at the first entry that `require_small` refuses, if no entry before it grants the request. `Memory` if memory ran out, or if
-/// there are too many copies to count.
+/// a shared part has too many owners to count.
 fn first_granting<'a, L: Ledger>(
     alloc: Global,
     case: &Case<'a>,

@@ -22,7 +22,7 @@ use std::sync::ledger::Ledger;
 /// # Errors
 ///
 /// `TooLarge` if the product of the nodes of two tags that are to be intersected is over the case's `most_nodes`, or a step costs more than the
-/// budget has left. `Memory` if memory ran out, or if there are too many copies to count.
+/// budget has left. `Memory` if memory ran out, or if a shared part has too many owners to count.
 pub(crate) fn fold_entry<'a, L: Ledger>(
     alloc: Global,
     entry: &Entry<'a>,
@@ -80,7 +80,7 @@ pub(crate) fn fold_entry<'a, L: Ledger>(
 }
 
 /// An entry's 5-tuple, whose issuer is the owner of the access list (RFC 2693, section 6.1). Err if memory ran out, or if a tag or a list of
-/// names has too many copies to count.
+/// names has too many owners to count.
 fn own_five<'a>(entry: &Entry<'a>) -> Result<Five<'a>, AllocError>
     ensures { IfOk result (λ f. five_tuple f ≡ entry_tuple entry.now) }
 {

@@ -122,7 +122,7 @@ fn examine_by<'a>(
 }
 
 /// Appends the tuple of a certificate that passed `test` to `steps`, and its signature `one` to `signed`. The tuple's issuer is the key
-/// of the signature. Err if memory ran out, or if a tag or a list of names has too many copies to count.
+/// of the signature. Err if memory ran out, or if a tag or a list of names has too many owners to count.
 fn add_passed<'a>(
     steps: &mut Vec<Step<'a>>,
     signed: &mut Vec<Signed<'a>>,

@@ -13,7 +13,7 @@ pub enum GuardFault {
     /// became, is over the case's `most_nodes`. Or the work of the entries (`spki_reduce::Work`) is over the case's `most_work`.
     #[error("the tags are too large")]
     TooLarge,
-    /// Memory ran out, in this library or in the verifier. Or a tag or a list of names has too many copies to count.
+    /// Memory ran out, in this library or in the verifier. Or a tag or a list of names has too many owners to count.
     #[error("out of memory")]
     Memory,
 }

@@ -58,8 +58,8 @@ pub enum Reduction<'a> {
 ///
 /// `TooLarge` only if the certificates pass their tests, and one of two things is true. For some entry the tag of a certificate is too large
 /// for what the entry and the certificates before it became: the product of the nodes of both tags is over the case's `most_nodes`. Or the
-/// work of the entries, without those that are spared by `uncounted`, is over `most_work`. `Memory` if memory ran out, here or in the verifier,
-/// or if there are too many copies to count.
+/// work of all entries together is over `most_work`, where those with small chains, as `Case::uncounted` says, do not count. `Memory` if memory
+/// ran out, here or in the verifier, or if a shared part has too many owners to count.
 #[tactic(auto, using(crate::proofs::EntryChains::as_many, crate::proofs::EntryChains::all_stand))]
 pub fn reduce_case<'a, V: Verifier>(
     alloc: Global,
@@ -121,7 +121,7 @@ pub(crate) fn put_folds<'a, S: FoldSink<'a>>(
 /// # Errors
 ///
 /// `TooLarge` if the product of the nodes of two tags that are to be intersected is over the case's `most_nodes`, or the work is more than
-/// the budget has. `Memory` if memory ran out, or if there are too many copies to count. What was taken from the budget before an error stays
+/// the budget has. `Memory` if memory ran out, or if a shared part has too many owners to count. What was taken from the budget before an error stays
 /// taken.
 pub fn entry_fold<'a>(
     alloc: Global,
@@ -205,7 +205,7 @@ fn entry_fold_with_new_count<'a, L: Ledger>(
 /// # Errors
 ///
 /// `TooLarge` if the product of the nodes of two tags that are to be intersected is over the case's `most_nodes`, or the work is more than
-/// the budget has. `Memory` if memory ran out, or if there are too many copies to count.
+/// the budget has. `Memory` if memory ran out, or if a shared part has too many owners to count.
 pub fn entry_fold_counted<'a, L: Ledger>(
     alloc: Global,
     case: &Case<'a>,

@@ -28,7 +28,7 @@ use std::sync::ledger::{Blank, Ledger};
 /// # Errors
 ///
 /// `TooLarge` if a step joins the result of the steps before it except for their tags, and the product of the numbers of
-/// nodes of these two tags is over 1,000,000. `Memory` if memory ran out, or if there are too many copies to count.
+/// nodes of these two tags is over 1,000,000. `Memory` if memory ran out, or if a shared part has too many owners to count.
 #[tactic(auto, using(crate::proofs::Chains::too_large, crate::proofs::Working::unbounded))]
 pub fn fold_chain<'a>(
     alloc: Global,
@@ -72,8 +72,8 @@ pub fn fold_chain<'a>(
 /// # Errors
 ///
 /// `TooLarge` if a step joins except for its tag, and the product of the nodes of this tag and of the intersection of the
-/// tags before it is over `most`; or if a step costs more than `work` still has. `Memory` if memory ran out, or if there are
-/// too many copies to count. What was taken from `work` before an error stays taken.
+/// tags before it is over `most`; or if a step costs more than `work` still has. `Memory` if memory ran out, or if a shared part has
+/// too many owners to count. What was taken from `work` before an error stays taken.
 pub fn fold_owned<'a>(
     alloc: Global,
     first: Five<'a>,
@@ -171,7 +171,7 @@ fn fold_with_new_count<'a, L: Ledger>(
 /// # Errors
 ///
 /// `TooLarge` if the product of the nodes of two tags that are to be intersected is over `most`, or a step costs more than `work` still
-/// has. `Memory` if memory ran out, or if there are too many copies to count. What was taken from `work` before an error stays taken.
+/// has. `Memory` if memory ran out, or if a shared part has too many owners to count. What was taken from `work` before an error stays taken.
 pub fn fold_owned_counted<'a, L: Ledger>(
     alloc: Global,
     first: Five<'a>,
@@ -229,7 +229,7 @@ pub fn fold_owned_counted<'a, L: Ledger>(
 }
 
 impl<'a> Five<'a> {
-    /// Returns a copy of the authorization. Err if memory ran out, or if its tag or its names have too many copies to count.
+    /// Returns a copy of the authorization. Err if memory ran out, or if its tag or its names have too many owners to count.
     pub(crate) fn copy(&self) -> Result<Five<'a>, AllocError>
         ensures { IfOk result (λ f. five_tuple f ≡ five_tuple self.now) }
     {

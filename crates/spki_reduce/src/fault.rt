@@ -14,7 +14,7 @@ pub enum ReduceFault {
     /// that the caller passes. Or a step costs more than the caller's `Work` has left.
     #[error("the tags are too large")]
     TooLarge,
-    /// Memory ran out, or a tag or a list of names has too many copies to count.
+    /// Memory ran out, or a tag or a list of names has too many owners to count.
     #[error("out of memory")]
     Memory,
 }

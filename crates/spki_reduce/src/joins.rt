@@ -33,7 +33,7 @@ impl<'a> Five<'a> {
     /// # Errors
     ///
     /// `TooLarge` if they join except for their tags, and the product of the numbers of the tags' nodes is over 1,000,000.
-    /// `Memory` if memory ran out, or if there are too many copies to count.
+    /// `Memory` if memory ran out, or if a shared part has too many owners to count.
     pub fn then(
         &self,
         alloc: Global,
@@ -124,7 +124,7 @@ impl<'a> Five<'a> {
     ///
     /// # Errors
     ///
-    /// Only `Memory`, if memory ran out, or if the tag or a list of names has too many copies to count.
+    /// Only `Memory`, if memory ran out, or if the tag or a list of names has too many owners to count.
     pub fn resolve(
         &self,
         _alloc: Global,
@@ -144,7 +144,7 @@ impl<'a> Five<'a> {
     ///
     /// # Errors
     ///
-    /// Only `Memory`, if memory ran out, or if the names of the definition's subject have too many copies to count.
+    /// Only `Memory`, if memory ran out, or if the names of the definition's subject have too many owners to count.
     pub fn into_resolve(
         self,
         definition: &Four<'a>,
@@ -283,7 +283,7 @@ impl<'a> Five<'a> {
 
 /// What an authorization and `next`, the one after it, become: an authorization with this issuer, tag and window, and with the
 /// subject and delegation of `next`. `issuer` is that of the first, and `tag` and `window` are the intersections of those of
-/// both. `Stopped(NoTag)` if `tag` is `(* set)`. Err if memory ran out, or if the names of the subject have too many copies to count.
+/// both. `Stopped(NoTag)` if `tag` is `(* set)`. Err if memory ran out, or if the names of the subject have too many owners to count.
 fn narrowed<'a>(
     issuer: Issuer<'a>,
     tag: Tag,
@@ -326,7 +326,7 @@ impl<'a> Four<'a> {
     ///
     /// # Errors
     ///
-    /// Only `Memory`, if memory ran out or names have too many copies to count.
+    /// Only `Memory`, if memory ran out or names have too many owners to count.
     #[tactic(auto, using(crate::proofs::ReducedForms::links))]
     pub fn then(
         &self,
@@ -373,7 +373,7 @@ fn begins(subject: &Subject, definition: &Four, policy: Policy) -> bool
 
 /// The subject that a subject with `names` becomes, if its first name is resolved by a definition. `subject` is that of the
 /// definition: its principal and names come first, and after them `names` without the first. Err if memory ran out, or if the
-/// names of `subject` have too many copies to count.
+/// names of `subject` have too many owners to count.
 fn resolved_subject<'a>(subject: &Subject<'a>, names: Names<'a>) -> Result<Subject<'a>, AllocError>
     ensures { IfOk result (λ made. (made.principal ≡ subject.now.principal)
         × (made.names ≡ subject.now.names ++ drop 1 names.entry)) }

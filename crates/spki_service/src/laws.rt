@@ -91,8 +91,8 @@ pub fn possible()
 {}
 
 /// A guard's decision by marks can be repeated by the command `check`. An auditor composes the case of the guard's entries and policy and the
-/// question's parts, with rows for exactly the marked signatures. If signatures of equal key, digest and value are marked alike, and the case is
-/// not refused, `check` answers the same.
+/// question's parts, whose accepted list has a row for each marked signature, and no other. A row has no place, so signatures of equal key, digest
+/// and value must be marked alike. Then, unless it refuses the case, `check` answers the same.
 pub fn as_check()
     ensures { (a : PreparedModel) (es : List Entry) (c : Case) (x y : Decision) → AreEntries a.texts es → IsCaseOfParts a es c
         → AreRowsOf c.rows (asked a.case) a.marks → AreMarkedAlike (asked a.case) a.marks

@@ -26,7 +26,7 @@ use std::sync::ledger::{Blank, Ledger};
 const MOST_NODES: usize = 1_000_000;
 
 /// Returns the intersection of two tags of any forms. The product of their numbers of nodes must be at most 1,000,000. Err if memory ran
-/// out, or if there are too many copies to count.
+/// out, or if a shared part has too many owners to count.
 #[cycle(meet)]
 fn meet_tags<L: Ledger>(
     alloc: Global,
@@ -52,7 +52,7 @@ fn meet_tags<L: Ledger>(
 }
 
 /// Returns the intersection of two tags that are neither sets nor `(*)`, so no `unreachable!()` is reached. It is `(* set)` for a list and
-/// a tag without members. Err if memory ran out, or if there are too many copies to count.
+/// a tag without members. Err if memory ran out, or if a shared part has too many owners to count.
 #[cycle(meet)]
 fn meet_single<L: Ledger>(
     alloc: Global,
@@ -93,7 +93,7 @@ fn meet_single<L: Ledger>(
 
 /// Returns the intersection of two lists. The first has the head `head` and then the members `further`, the second the head `other` and
 /// then the members `others`. It is `(* set)` if the heads differ, or if the intersection of two members at one place is `(* set)`. Err
-/// if memory ran out, or if there are too many copies to count.
+/// if memory ran out, or if a shared part has too many owners to count.
 #[cycle(meet)]
 fn meet_lists<L: Ledger>(
     alloc: Global,
@@ -123,8 +123,8 @@ fn meet_lists<L: Ledger>(
 }
 
 /// Returns the intersections of the members of two lists with the same head, place by place. Where only the longer list has a member,
-/// that member is copied. None if some intersection is `(* set)`: then that of the lists is too. Err if memory ran out, or if there are too
-/// many copies to count.
+/// that member is copied. None if some intersection is `(* set)`: then that of the lists is too. Err if memory ran out, or if a shared part has too
+/// many owners to count.
 #[cycle(meet)]
 fn meet_each<L: Ledger>(
     alloc: Global,
@@ -160,7 +160,7 @@ fn meet_each<L: Ledger>(
 
 /// Returns the set of the intersections of each tag of `ones` with each of `others`, without those that are `(* set)`. The order is that of
 /// `ones`, and for each of them that of `others`. If only one is left, it is returned itself. With an index of `others`, pairs are skipped
-/// whose intersection is `(* set)` by kind and string alone. Err if memory ran out, or if there are too many copies to count.
+/// whose intersection is `(* set)` by kind and string alone. Err if memory ran out, or if a shared part has too many owners to count.
 #[cycle(meet)]
 fn meet_members<L: Ledger>(
     alloc: Global,
@@ -187,7 +187,7 @@ fn meet_members<L: Ledger>(
 }
 
 /// Appends a row to `met`: the intersections of `one` with those of `others` at these places, counted from 1, which the index of `others`
-/// has found for `one`. Intersections that are `(* set)` are left out. Err if memory ran out, or if there are too many copies to count; then
+/// has found for `one`. Intersections that are `(* set)` are left out. Err if memory ran out, or if a shared part has too many owners to count; then
 /// `met` may have some of them.
 #[cycle(meet)]
 fn push_row<L: Ledger>(
@@ -218,8 +218,8 @@ impl Tag {
     ///
     /// # Errors
     ///
-    /// `TooLarge` if the product of the numbers of nodes of both tags is over 1,000,000. `Memory` if memory ran out, or if there are too many
-    /// copies to count.
+    /// `TooLarge` if the product of the numbers of nodes of both tags is over 1,000,000. `Memory` if memory ran out, or if a shared part has too many
+    /// owners to count.
     pub fn meet(&self, alloc: Global, other: &Tag) -> Result<Tag, MeetFault>
         ensures value { IfOk result (λ c. c ≡ meet self.now other.now) }
         ensures exact { IfOk result (λ c. (g : Request) → IsRequest g
@@ -236,8 +236,8 @@ impl Tag {
     ///
     /// # Errors
     ///
-    /// `TooLarge` if the product of the numbers of nodes of both tags is over `most`. `Memory` if memory ran out, or if there are too many
-    /// copies to count.
+    /// `TooLarge` if the product of the numbers of nodes of both tags is over `most`. `Memory` if memory ran out, or if a shared part has too many
+    /// owners to count.
     pub fn meet_within(&self, alloc: Global, other: &Tag, most: usize) -> Result<Tag, MeetFault>
         requires { most ≤ 1000000 }
         ensures value { IfOk result (λ c. c ≡ meet self.now other.now) }
@@ -285,7 +285,7 @@ impl Tag {
     /// # Errors
     ///
     /// `TooLarge` if the product of the numbers of nodes of both tags is over `most`; then nothing is added to `ticks`. `Memory` if memory
-    /// ran out, or if there are too many copies to count.
+    /// ran out, or if a shared part has too many owners to count.
     #[tactic(auto, using(crate::proofs::Exact::meet_exact, crate::proofs::MeetSizes::meet_le, crate::proofs::NormalForms::meet_ldepth))]
     pub fn meet_counted<L: Ledger>(
         &self,

@@ -93,7 +93,7 @@ pub(crate) fn is_below(up: &Option<Limit>, octets: &[u8]) -> bool
     }
 }
 
-/// A copy of a limit that shares its octets. A missing limit stays missing. Err if there are too many copies to count.
+/// A copy of a limit that shares its octets. A missing limit stays missing. Err if a shared part has too many owners to count.
 pub(crate) fn copied_limit(limit: &Option<Limit>) -> Result<Option<Limit>, AllocError>
     ensures { IfOk result (λ copy. limit_of copy ≡ limit_of limit.now) }
 {
@@ -172,7 +172,7 @@ impl Leaf {
         }
     }
 
-    /// A copy of the tag that shares its octets. Err if there are too many copies to count.
+    /// A copy of the tag that shares its octets. Err if a shared part has too many owners to count.
     pub(crate) fn copy(&self) -> Result<Leaf, AllocError>
         ensures { IfOk result (λ copy. leaf_tag copy ≡ leaf_tag self.now) }
     {

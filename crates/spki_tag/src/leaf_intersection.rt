@@ -13,7 +13,7 @@ use std::sync::Arc;
 use std::sync::ledger::Ledger;
 
 /// Returns the intersection of a string and `other`: the string if `other` contains it. Otherwise None, which stands for `(* set)`. Err if
-/// there are too many copies to count.
+/// a shared part has too many owners to count.
 fn meet_string(octets: &StringOctets, other: &Leaf) -> Result<Option<Leaf>, AllocError>
     ensures { IfOk result (λ r. leaf_or_nothing r ≡ string_meet octets.now (leaf_tag other.now)) }
 {
@@ -25,7 +25,7 @@ fn meet_string(octets: &StringOctets, other: &Leaf) -> Result<Option<Leaf>, Allo
 }
 
 /// Returns the intersection of two prefixes: the longer if it starts with the shorter. Otherwise None, which stands for `(* set)`. Err if
-/// there are too many copies to count.
+/// a shared part has too many owners to count.
 fn meet_prefixes(one: &Prefix, other: &Prefix) -> Result<Option<Leaf>, AllocError>
     ensures { IfOk result (λ r. leaf_or_nothing r ≡ prefixes_meet one.now other.now) }
 {
@@ -38,8 +38,8 @@ fn meet_prefixes(one: &Prefix, other: &Prefix) -> Result<Option<Leaf>, AllocErro
     }
 }
 
-/// Returns the intersection of two ranges, by `Range::meet`, as a tag. None if it is `(* set)`. Err if memory ran out, or if there are too
-/// many copies to count.
+/// Returns the intersection of two ranges, by `Range::meet`, as a tag. None if it is `(* set)`. Err if memory ran out, or if a shared part has too
+/// many owners to count.
 fn meet_ranges(alloc: Global, one: &Range, other: &Range) -> Result<Option<Leaf>, AllocError>
     ensures { IfOk result (λ r. leaf_or_nothing r ≡ meet (range_tag one.now) (range_tag other.now)) }
 {
@@ -53,7 +53,7 @@ impl Leaf {
     /// Does what `meet` does, and adds to `ticks`, a count of work that exists only in contracts, three for each octet of the other tag's
     /// strings, since none is compared more often. A prefix is compared most often: as a lower and an upper limit, and one of them once
     /// more to see whether the limits exclude each other. The 3 in the contract are for the tag itself, which `weight` counts and this
-    /// function does not. None if the intersection is `(* set)`. Err if memory ran out, or if there are too many copies to count; then too
+    /// function does not. None if the intersection is `(* set)`. Err if memory ran out, or if a shared part has too many owners to count; then too
     /// the ticks are added.
     pub(crate) fn meet_counted<L: Ledger>(
         &self,
@@ -72,7 +72,7 @@ impl Leaf {
 
     /// Returns the intersection of two tags without members. None if it is `(* set)`. A prefix and a range are intersected as two ranges:
     /// the prefix is the range of the strings that start with it. Each octet of either tag's strings is compared at most three times. Err
-    /// if memory ran out, or if there are too many copies to count.
+    /// if memory ran out, or if a shared part has too many owners to count.
     fn meet(&self, alloc: Global, other: &Leaf) -> Result<Option<Leaf>, AllocError>
         ensures { IfOk result (λ r. leaf_or_nothing r ≡ meet (leaf_tag self.now) (leaf_tag other.now)) }
     {

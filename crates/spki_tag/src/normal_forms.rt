@@ -13,7 +13,7 @@ use crate::tag::{Node, Tag};
 use std::alloc::AllocError;
 
 /// Appends a tag to the members of a set. If the tag is a set itself, its members are appended instead, so that no set is a member of a
-/// set. Err if memory ran out, or if there are too many copies to count; then `members` may have some of those.
+/// set. Err if memory ran out, or if a shared part has too many owners to count; then `members` may have some of those.
 #[tactic(auto, using(crate::proofs::Exact::items_tags))]
 pub(crate) fn push_member(members: &mut Vec<Tag>, tag: Tag) -> Result<(), AllocError>
     ensures { OnOk result (members.new.items ≡ members.old.items ++ in_place tag) }

@@ -31,7 +31,7 @@ pub(crate) fn push_kept(met: &mut Vec<Tag>, tag: Tag) -> Result<(), AllocError>
 }
 
 /// Appends a copy of each of `members`, which only the longer of two lists has, to `met`, the members of their intersection so far. Adds
-/// one for each to `ticks`, a count of work that exists only in contracts. Err if memory ran out, or if there are too many copies to count;
+/// one for each to `ticks`, a count of work that exists only in contracts. Err if memory ran out, or if a shared part has too many owners to count;
 /// then `met` may have some of them.
 #[tactic(auto, using(crate::proofs::Members::fewer_than_nodes))]
 pub(crate) fn push_copies<L: Ledger>(
@@ -48,8 +48,8 @@ pub(crate) fn push_copies<L: Ledger>(
     push_shared(met, members)
 }
 
-/// Appends a copy of each tag of `others` to `tags`. The copies share members and octets with `others`. Err if memory ran out, or if there
-/// are too many copies to count; then `tags` may have some of them.
+/// Appends a copy of each tag of `others` to `tags`. The copies share members and octets with `others`. Err if memory ran out, or if a shared part
+/// has too many owners to count; then `tags` may have some of them.
 pub(crate) fn push_shared(tags: &mut Vec<Tag>, others: &[Tag]) -> Result<(), AllocError>
     ensures { OnOk result (tags.new.items ≡ tags.old.items ++ others.now) }
 {

@@ -49,7 +49,7 @@ impl Prefix {
     }
 
     /// The lower limit of the strings that start with the prefix: the prefix itself, included. Never None: it is an Option because a
-    /// `Range` has each limit as an Option. Err if there are too many copies to count.
+    /// `Range` has each limit as an Option. Err if a shared part has too many owners to count.
     fn lower_limit(&self) -> Result<Option<Limit>, AllocError>
         ensures { IfOk result (λ low. limit_of low ≡ from self.now) }
     {
@@ -60,7 +60,7 @@ impl Prefix {
     }
 
     /// The upper limit of the strings that start with the prefix: a strict limit above all of them. None if the prefix
-    /// is empty or has only octets `FF`. Err if there are too many copies to count.
+    /// is empty or has only octets `FF`. Err if a shared part has too many owners to count.
     fn upper_limit(&self) -> Result<Option<Limit>, AllocError>
         ensures { IfOk result (λ up. limit_of up ≡ strict_limit (least_above self.now)) }
     {
@@ -74,7 +74,7 @@ impl Prefix {
     }
 
     /// The range of the strings that start with the prefix, to intersect the prefix with a range. Its limits never exclude each other. Err
-    /// if there are too many copies to count.
+    /// if a shared part has too many owners to count.
     #[tactic(auto, using(crate::proofs::Limits::least_above_apart))]
     pub(crate) fn range(&self) -> Result<Range, AllocError>
         ensures { IfOk result (λ r. range_tag r ≡ range alpha (from self.now) (strict_limit (least_above self.now))) }
@@ -91,7 +91,7 @@ impl Prefix {
 impl Clone for Prefix {
     ghost is_clone = { λ p q. q ≡ p };
 
-    /// Returns a copy. Err if there are too many copies to count.
+    /// Returns a copy. Err if a shared part has too many owners to count.
     fn clone(&self) -> Result<Prefix, AllocError> {
         let above = match &self.above {
             None => None,

@@ -72,7 +72,7 @@ impl Range {
     }
 
     /// Returns the range of an ordering with copies of these limits. None if `excluded`, which must be true exactly if the limits exclude
-    /// each other. Err if there are too many copies to count.
+    /// each other. Err if a shared part has too many owners to count.
     fn with_copied_limits(
         excluded: bool,
         ordering: RangeOrdering,
@@ -92,7 +92,7 @@ impl Range {
     /// Returns the intersection of two ranges: the range with the common ordering, the greater lower limit and the lesser upper limit. None
     /// if one ordering is of times and the other of dates, or if these two limits exclude each other; if both are of one range, its field
     /// `excluded` is used. A limit is compared only with limits of the other range, and each comparison reads at most the octets of the
-    /// shorter one. So at most twice the octets of the limits of either range are read. Err if there are too many copies to count.
+    /// shorter one. So at most twice the octets of the limits of either range are read. Err if a shared part has too many owners to count.
     pub(crate) fn meet(&self, other: &Range) -> Result<Option<Range>, AllocError>
         ensures { IfOk result (λ r. range_or_nothing r
             ≡ ranged (ordering_meet (ordering_of self.now.ordering) (ordering_of other.now.ordering))

@@ -64,7 +64,7 @@ impl StringOctets {
 impl Clone for StringOctets {
     ghost is_clone = { λ s t. t ≡ s };
 
-    /// Returns a copy. Err if there are too many copies to count.
+    /// Returns a copy. Err if a shared part has too many owners to count.
     fn clone(&self) -> Result<StringOctets, AllocError> {
         let held = match &self.held {
             Held::Nothing => Held::Nothing,

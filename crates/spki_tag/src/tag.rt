@@ -160,7 +160,7 @@ fn nodes_of(members: &[Tag]) -> usize
 impl Clone for Tag {
     ghost is_clone = { λ t u. u ≡ t };
 
-    /// Returns a copy. Err if there are too many copies to count.
+    /// Returns a copy. Err if a shared part has too many owners to count.
     fn clone(&self) -> Result<Tag, AllocError> {
         let node = match &self.node {
             Node::Leaf(leaf) => Node::Leaf(leaf.copy()?),
