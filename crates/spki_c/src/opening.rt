@@ -15,7 +15,8 @@ use std::alloc::Global;
 /// Opens the question of these parts for a guard, and puts it on the heap. `texts` are the strings of its request, and used only
 /// if `is_worded` of `parts` is true. The moment is the first of `seconds`, or that of `parts` if there are none. All texts must
 /// be lent whole (`Text::is_lent`). Err is the line of the refusal: of the first part with a fault, such as `refused key Shape`,
-/// of a limit of the guard that is exceeded, such as `refused question TooLong`, or `refused Memory`.
+/// of a limit of the guard that is exceeded, such as `refused question TooLong`, or `refused Memory` if memory ran out or the guard
+/// has too many owners to count.
 pub(crate) fn open_parts(
     alloc: Global,
     guard: &SharedGuard,

@@ -32,7 +32,8 @@ use std::alloc::Global;
 /// or that of `parts` if there are none.
 ///
 /// Returns `DONE` (6) if the handle owns the question. Otherwise the handle is unchanged. Returns `REFUSED` (2) if a part of the
-/// question has a fault, a limit of the guard is exceeded, or memory ran out: the line that says so is at the front of the buffer.
+/// question has a fault, a limit of the guard is exceeded, memory ran out, or the guard has too many owners to count (each question that
+/// is open for it is one): the line that says so is at the front of the buffer.
 /// Returns `TOO_SMALL` (4) if the buffer is too small for that line. Returns `MISUSED` (5) if `lent` is the handle of a question,
 /// a request or a moment is given both ways (`Parts::is_ambiguous`), or a text, used or not, has octets at a null pointer or more
 /// than memory can have (`Text::is_lent`).

@@ -14,9 +14,9 @@ pub(crate) struct Place {
     pub(crate) length: usize,
 }
 
-/// The place of a string's octets in the canonical text of a node. That text must have at most 1,048,576 octets. The path
-/// leads from the node to the string: each number is that of the list member to enter, from 0. An empty path leads to the
-/// node itself. None if the path leads to no string.
+/// The place of a string's octets in the canonical text of a node. That text must have at most 1,048,576 octets, so that no sum of
+/// offsets overflows. The path leads from the node to the string: each number is that of the list member to enter, from 0. An empty
+/// path leads to the node itself. None if the path leads to no string.
 pub(crate) fn place_in(node: &Node, path: &[usize]) -> Option<Place>
     requires { length (canon node.now) ≤ 1048576 }
     ensures { MatchOption result (octets_at node.now path.now ≡ None)
@@ -53,7 +53,8 @@ fn place_of_octets(node: &Node) -> Option<Place>
 }
 
 /// The member of a list with this number, from 0, and the offset of its text in the canonical text of the list, whose opening
-/// parenthesis is at 0. That text must have at most 1,048,576 octets. None if there is no such member, or the node is a string.
+/// parenthesis is at 0. That text must have at most 1,048,576 octets, so that no offset overflows. None if there is no such member, or
+/// the node is a string.
 fn member_of<'d, 'a>(node: &Node<'d, 'a>, number: usize) -> Option<(Node<'d, 'a>, usize)>
     requires { length (canon node.now) ≤ 1048576 }
     ensures { MatchOption result (slice_get (parts node.now) number ≡ None) (λ r. IsMember node.now number r.0 r.1) }

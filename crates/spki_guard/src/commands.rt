@@ -117,7 +117,8 @@ fn answer_query<'s>(
     answer
 }
 
-/// The answer of `reduce`, `check` or `explain` to a case that was read. Err is `TooLarge` or `Memory`.
+/// The answer of `reduce`, `check` or `explain` to a case that was read. Err is `Decision(TooLarge)` if the tags, or the work of joining
+/// them, are over the case's limits; or `Memory`.
 fn answer_case<'a>(alloc: Global, query: Query, case: &Case<'a>) -> Result<Answer<'a>, Refusal>
     ensures answered { (v : Value) → IsCaseText (canon v) (model case.now)
         → IfOk result (PrintsAs (AnswersValue (command_of query) v)) }
@@ -131,8 +132,8 @@ fn answer_case<'a>(alloc: Global, query: Query, case: &Case<'a>) -> Result<Answe
     }
 }
 
-/// Decides a case by its accepted list, the signatures that the service has verified. The answer is `yes entry N` or `no`. Err is `TooLarge` or
-/// `Memory`.
+/// Decides a case by its accepted list, the signatures that the service has verified. The answer is `yes entry N` or `no`. Err is
+/// `Decision(TooLarge)` if the tags, or the work of joining them, are over the case's limits; or `Memory`.
 fn check<'a>(alloc: Global, case: &Case<'a>) -> Result<Answer<'a>, Refusal>
     ensures answered { (text : List ℕ) → IsCaseText text (model case.now) → IfOk result (PrintsAs (Decides text)) }
     ensures refused { (v : Value) → IsCaseText (canon v) (model case.now) → IfErr result (λ refusal. RefusesValue Command.Check v refusal) }
@@ -142,7 +143,8 @@ fn check<'a>(alloc: Global, case: &Case<'a>) -> Result<Answer<'a>, Refusal>
 }
 
 /// Reduces a case by its accepted list, the signatures that the service has verified. The answer has a line for each
-/// entry, `no entries`, or one line for the certificate that fails. Err is `TooLarge` or `Memory`.
+/// entry, `no entries`, or one line for the certificate that fails. Err is `Decision(TooLarge)` if the tags, or the work of joining them, are
+/// over the case's limits; or `Memory`.
 fn reduce<'a>(alloc: Global, case: &Case<'a>) -> Result<Answer<'a>, Refusal>
     ensures answered { (text : List ℕ) → IsCaseText text (model case.now) → IfOk result (PrintsAs (Reduces text)) }
     ensures refused { (v : Value) → IsCaseText (canon v) (model case.now) → IfErr result (λ refusal. RefusesValue Command.Reduce v refusal) }
@@ -152,7 +154,8 @@ fn reduce<'a>(alloc: Global, case: &Case<'a>) -> Result<Answer<'a>, Refusal>
 }
 
 /// Explains a case by its accepted list, the signatures that the service has verified. The answer has a line for each
-/// entry, `no entries`, or one line for the certificate that fails. Err is `TooLarge` or `Memory`.
+/// entry, `no entries`, or one line for the certificate that fails. Err is `Decision(TooLarge)` if the tags, or the work of joining them, are
+/// over the case's limits; or `Memory`.
 fn explain_case<'a>(alloc: Global, case: &Case<'a>) -> Result<Answer<'a>, Refusal>
     ensures answered { (text : List ℕ) → IsCaseText text (model case.now) → IfOk result (PrintsAs (Explains text)) }
     ensures refused { (v : Value) → IsCaseText (canon v) (model case.now) → IfErr result (λ refusal. RefusesValue Command.Explain v refusal) }

@@ -1,4 +1,6 @@
 //! The answers to a question that a guard has read: grants, decisions, explanations and reductions, by a verifier or by marks.
+//! The four tests of a certificate (`Stop`): the issuer's key is known, the signature has the certificate's digest, its signer names this key, and
+//! the verifier accepts it or, for an answer by marks, it is marked.
 
 ghost use Rattle.std.specs.Prelude.{◌≡◌, List, map, IfOk, IsErrOf, option_copied};
 ghost use Rattle.spki_reduce.specs.Chain.{tuples_of};
@@ -21,9 +23,8 @@ use std::marker::Brand;
 use std::sync::ledger::Blank;
 
 impl<'a> PreparedQuestion<'a> {
-    /// The signatures that a verifier is asked about, in order (RFC 2693, section 6). They are those of the
-    /// certificates that pass the first three of the four tests of `Stop`, up to the first that does not. Nothing is
-    /// copied.
+    /// The signatures that a verifier is asked about, in order (RFC 2693, section 6). They are those of the certificates before the first that
+    /// fails a test that needs no verifier: the first three tests of `Stop`, of the issuer's key, the digest and the signer. Nothing is copied.
     pub fn signed(&self) -> &[Signed<'a>]
         ensures { map signed_of result.now ≡ asked self.now.case }
     {
@@ -78,7 +79,7 @@ impl<'a> PreparedQuestion<'a> {
     pub fn grant_by(&self, alloc: Global) -> Result<Option<Grant>, AllocError>
         ensures { IfOk result (GrantsMarked self.now) }
     {
-        // `Brand` and `Blank` are for a count of ticks, which exists only in contracts: see `spki_tag::Ticks`.
+        // `Brand` and `Blank` are for a count of operations (ticks), which only contracts see and which costs no time: see `spki_tag::Ticks`.
         self.grant_by_with_new_count::<Brand>(alloc, Blank::new(1))
     }
 
@@ -117,7 +118,7 @@ impl<'a> PreparedQuestion<'a> {
     pub(crate) fn granted(&self, alloc: Global) -> Result<Option<Grant>, AllocError>
         ensures { IfOk result (Grants every self.now) }
     {
-        // `Brand` and `Blank` are for a count of ticks, which exists only in contracts: see `spki_tag::Ticks`.
+        // `Brand` and `Blank` are for a count of operations (ticks), which only contracts see and which costs no time: see `spki_tag::Ticks`.
         self.granted_with_new_count::<Brand>(alloc, Blank::new(1))
     }
 
@@ -128,8 +129,8 @@ impl<'a> PreparedQuestion<'a> {
     ///
     /// # Errors
     ///
-    /// `TooLarge` if the product of the nodes of two tags to be intersected is over the guard's limit `nodes`, or the work of all
-    /// entries together over its limit `work`. `Memory` if memory ran out, here or in the verifier.
+    /// `TooLarge` if the product of the nodes of two tags to be intersected is over the guard's limit `nodes`, or the work of all entries together
+    /// over its limit `work`. `Memory` if memory ran out, here or in the verifier, or if a tag or a list of names has too many owners to count.
     pub fn explain<V: Verifier>(
         &self,
         alloc: Global,
@@ -137,9 +138,8 @@ impl<'a> PreparedQuestion<'a> {
     ) -> Result<Explanation, GuardFault>
         ensures { Answers (λ c answer. IsExplained c (V.accepted verifier.now) answer) self.now result }
     {
-        // `Brand` and `Blank` are for a count of ticks, which exists only in contracts: see `spki_tag::Ticks`.
         match first_refused(alloc, &self.examined.signed, verifier)? {
-            // `Brand` and `Blank` are for a count of ticks, which exists only in contracts: see `spki_tag::Ticks`.
+            // `Brand` and `Blank` are for a count of operations (ticks), which only contracts see and which costs no time: see `spki_tag::Ticks`.
             None => self.explained_with_new_count::<Brand>(alloc, Blank::new(1)),
             Some(place) => Ok(Explanation::Evidence {
                 item: self.examined.signed[place].item,
@@ -154,11 +154,11 @@ impl<'a> PreparedQuestion<'a> {
     /// # Errors
     ///
     /// `TooLarge` if the product of the nodes of two tags to be intersected is over the guard's limit `nodes`, or the work of all
-    /// entries together over its limit `work`. `Memory` if memory ran out.
+    /// entries together over its limit `work`. `Memory` if memory ran out, or if a tag or a list of names has too many owners to count.
     pub fn explain_by(&self, alloc: Global) -> Result<Explanation, GuardFault>
         ensures { ExplainsMarked self.now result }
     {
-        // `Brand` and `Blank` are for a count of ticks, which exists only in contracts: see `spki_tag::Ticks`.
+        // `Brand` and `Blank` are for a count of operations (ticks), which only contracts see and which costs no time: see `spki_tag::Ticks`.
         self.explain_by_with_new_count::<Brand>(alloc, Blank::new(1))
     }
 
@@ -169,8 +169,8 @@ impl<'a> PreparedQuestion<'a> {
     ///
     /// # Errors
     ///
-    /// `TooLarge` if the product of the nodes of two tags to be intersected is over the guard's limit `nodes`, or the work of all
-    /// entries together over its limit `work`. `Memory` if memory ran out, here or in the verifier.
+    /// `TooLarge` if the product of the nodes of two tags to be intersected is over the guard's limit `nodes`, or the work of all entries together
+    /// over its limit `work`. `Memory` if memory ran out, here or in the verifier, or if a tag or a list of names has too many owners to count.
     pub fn reduce<V: Verifier>(
         &self,
         alloc: Global,
@@ -179,9 +179,8 @@ impl<'a> PreparedQuestion<'a> {
         ensures reduced { Answers (λ c answer. IsReduced c (V.accepted verifier.now) answer) self.now result }
         ensures end { IfOk result EndAtDates }
     {
-        // `Brand` and `Blank` are for a count of ticks, which exists only in contracts: see `spki_tag::Ticks`.
         match first_refused(alloc, &self.examined.signed, verifier)? {
-            // `Brand` and `Blank` are for a count of ticks, which exists only in contracts: see `spki_tag::Ticks`.
+            // `Brand` and `Blank` are for a count of operations (ticks), which only contracts see and which costs no time: see `spki_tag::Ticks`.
             None => self.reduced_with_new_count::<Brand>(alloc, Blank::new(1)),
             Some(place) => Ok(Reduction::Evidence {
                 item: self.examined.signed[place].item,
@@ -196,12 +195,12 @@ impl<'a> PreparedQuestion<'a> {
     /// # Errors
     ///
     /// `TooLarge` if the product of the nodes of two tags to be intersected is over the guard's limit `nodes`, or the work of all
-    /// entries together over its limit `work`. `Memory` if memory ran out.
+    /// entries together over its limit `work`. `Memory` if memory ran out, or if a tag or a list of names has too many owners to count.
     pub fn reduce_by(&self, alloc: Global) -> Result<Reduction<'a>, GuardFault>
         ensures reduced { ReducesMarked self.now result }
         ensures end { IfOk result EndAtDates }
     {
-        // `Brand` and `Blank` are for a count of ticks, which exists only in contracts: see `spki_tag::Ticks`.
+        // `Brand` and `Blank` are for a count of operations (ticks), which only contracts see and which costs no time: see `spki_tag::Ticks`.
         self.reduce_by_with_new_count::<Brand>(alloc, Blank::new(1))
     }
 
@@ -212,8 +211,8 @@ impl<'a> PreparedQuestion<'a> {
     /// # Errors
     ///
     /// `TooLarge` if the product of the nodes of two tags to be intersected is over the guard's limit `nodes`, or the work of all
-    /// entries together over its limit `work`. `Memory` if memory ran out, here or in the sink. After an error, drop what `sink` has
-    /// taken: nothing is promised of it.
+    /// entries together over its limit `work`. `Memory` if memory ran out, here or in the sink, or if a tag or a list of names has too many owners
+    /// to count. After an error, drop what `sink` has taken: nothing is promised of it.
     pub fn reduce_into<S: FoldSink<'a>>(
         &self,
         alloc: Global,

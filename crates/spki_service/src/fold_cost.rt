@@ -35,7 +35,7 @@ impl<'a> PreparedQuestion<'a> {
     /// # Errors
     ///
     /// `TooLarge` if the product of the nodes of two tags to be intersected is over the guard's limit `nodes`, or the work of all
-    /// entries together over its limit `work`. `Memory` if memory ran out.
+    /// entries together over its limit `work`. `Memory` if memory ran out, or if a tag or a list of names has too many owners to count.
     pub fn explain_by_counted<L: Ledger>(
         &self,
         alloc: Global,
@@ -78,7 +78,7 @@ impl<'a> PreparedQuestion<'a> {
     /// # Errors
     ///
     /// `TooLarge` if the product of the nodes of two tags to be intersected is over the guard's limit `nodes`, or the work of all
-    /// entries together over its limit `work`. `Memory` if memory ran out.
+    /// entries together over its limit `work`. `Memory` if memory ran out, or if a tag or a list of names has too many owners to count.
     pub fn reduce_by_counted<L: Ledger>(
         &self,
         alloc: Global,
@@ -124,8 +124,8 @@ impl<'a> PreparedQuestion<'a> {
     /// # Errors
     ///
     /// `TooLarge` if the product of the nodes of two tags to be intersected is over the guard's limit `nodes`, or the work of all
-    /// entries together over its limit `work`. `Memory` if memory ran out, here or in the sink. After an error, drop what `sink` has
-    /// taken: nothing is promised of it.
+    /// entries together over its limit `work`. `Memory` if memory ran out, here or in the sink, or if a tag or a list of names has too many owners
+    /// to count. After an error, drop what `sink` has taken: nothing is promised of it.
     pub fn reduce_into_counted<L: Ledger, S: FoldSink<'a>>(
         &self,
         alloc: Global,
@@ -267,7 +267,8 @@ impl<'a> PreparedQuestion<'a> {
 /// # Errors
 ///
 /// `TooLarge` if the product of the nodes of two tags to be intersected is over the case's limit of nodes, or the work of all entries together
-/// over its limit of work. `Memory` if memory ran out, here or in the sink. After an error, drop what `sink` has taken.
+/// over its limit of work. `Memory` if memory ran out, here or in the sink, or if a tag or a list of names has too many owners to count. After an
+/// error, drop what `sink` has taken.
 fn fold_texts_counted<'a, L: Ledger, S: FoldSink<'a>>(
     alloc: Global,
     texts: &'a TextList,

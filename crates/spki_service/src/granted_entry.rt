@@ -19,7 +19,8 @@ use std::sync::ledger::Ledger;
 
 /// Returns the first of the entries with these numbers, from 1, that grants what the case asks, together with the certificates whose tuples
 /// are `steps`: its number, and until when it grants. None if none of them does. `texts` are the canonical texts of all entries, and must
-/// have one for each number. Each entry is read just before it is tested, and only the end of its window is kept. No intersection is formed.
+/// have one for each number. Each entry is read just before it is tested, and only the end of its window is kept. No intersection is formed:
+/// an entry is tested by `ChainRequirement`, which is what the request and all certificates together require of it.
 /// `ticks` counts operations, in contracts only: those of `ChainRequirement::of_counted` for the certificates, and those of reading and testing
 /// each entry, which are at most two for each octet of its text.
 ///

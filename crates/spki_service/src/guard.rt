@@ -122,8 +122,9 @@ impl Guard {
         texts_of(alloc, question, self.limits.octets)
     }
 
-    /// Reads the parts of a question, each by itself, in the order sequence, key, request, moment, and examines the certificates: does the
-    /// first three tests of `Stop`, which need no verifier. In the result no signature is marked as valid. `texts` is what `Guard::texts` returned.
+    /// Reads the parts of a question, each by itself, in the order sequence, key, request, moment, and examines the certificates:
+    /// tests for each that the issuer's key is known, that the signature has the certificate's digest, and that its signer names this key. These are
+    /// the tests of `Stop` that need no verifier. In the result no signature is marked as valid. `texts` is what `Guard::texts` returned.
     ///
     /// # Errors
     ///

@@ -29,8 +29,9 @@ pub fn one_list()
 {}
 
 /// Under one policy and the same limits of nodes and work, a question is read as at most one case, or refused for at most one fault of a part, and
-/// never both. The case's `uncounted` must be the same too: it is 0 in each question that a guard reads. The fault of a part depends only on the
-/// question's parts: it is that of the first part that cannot be read. Other faults, such as `TooLong` and `Memory`, are not meant here.
+/// never both. The case's `uncounted`, the size up to which a chain does not count as work, must be the same too: it is 0 in each question that a
+/// guard reads. The fault of a part depends only on the question's parts: it is that of the first part that cannot be read. Other faults, such as
+/// `TooLong` and `Memory`, are not meant here.
 pub fn one_asking()
     ensures case { (q : Question) (c d : Case) → IsAskedCase q c → IsAskedCase q d → c.policy ≡ d.policy
         → c.most_nodes ≡ d.most_nodes → c.most_work ≡ d.most_work → c.uncounted ≡ d.uncounted → c ≡ d }
@@ -91,8 +92,9 @@ pub fn possible()
 {}
 
 /// A guard's decision by marks can be repeated by the command `check`. An auditor composes the case of the guard's entries and policy and the
-/// question's parts, whose accepted list has a row for each marked signature, and no other. A row has no place, so signatures of equal key, digest
-/// and value must be marked alike. Then, unless it refuses the case, `check` answers the same.
+/// question's parts. Its accepted list has a row (key, digest and value) for each marked signature, and no other row. By a row `check` accepts each
+/// signature with these three, also at another place of the sequence. So signatures that are equal in them must be marked alike. Then, unless it
+/// refuses the case, `check` answers the same.
 pub fn as_check()
     ensures { (a : PreparedModel) (es : List Entry) (c : Case) (x y : Decision) → AreEntries a.texts es → IsCaseOfParts a es c
         → AreRowsOf c.rows (asked a.case) a.marks → AreMarkedAlike (asked a.case) a.marks

@@ -34,7 +34,7 @@ pub(crate) fn mark_at(marks: &mut [bool], place: usize) -> bool
 pub(crate) fn first_unmarked(count: usize, marks: &[bool]) -> Option<usize>
     ensures { IsFirstUnmarked count marks.now result }
 {
-    // `Brand` and `Blank` are for a count of ticks, which exists only in contracts: see `Ticks`.
+    // `Brand` and `Blank` are for a count of operations (ticks), which only contracts see and which costs no time: see `Ticks`.
     first_unmarked_with_new_count::<Brand>(count, marks, Blank::new(1))
 }
 

@@ -92,7 +92,7 @@ fn owned_one(alloc: Global, one: &Signed, key: Arc<Vec<u8>>) -> Result<OwnedSign
 
 /// Returns the octets of a key: those that a signature of `owned` has already, or otherwise a copy. `order` lists for
 /// each key the place in `owned`, from 0, of the first signature by it, sorted by the keys' octets. The place of a new key is
-/// added: the end of `owned`, where the caller then puts the signature. Err if memory ran out.
+/// added: the end of `owned`, where the caller then puts the signature. Err if memory ran out, or if the key has too many owners to count.
 fn shared_key(
     alloc: Global,
     owned: &[OwnedSigned],

@@ -93,7 +93,7 @@ pub enum AskFault {
     /// clock that failed or in a year after 9999.
     #[error("moment: {0}")]
     Moment(CertFaultKind),
-    /// Memory ran out. A fault inside one of the others is never `Memory`.
+    /// Memory ran out, or the guard has too many owners to be counted (`SharedGuard::share`). A fault inside one of the others is never `Memory`.
     #[error("out of memory")]
     Memory,
 }

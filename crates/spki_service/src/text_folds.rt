@@ -26,7 +26,8 @@ use std::alloc::Global;
 /// # Errors
 ///
 /// `TooLarge` if the product of the nodes of two tags to be intersected is over the case's limit of nodes, or the work of all entries together
-/// over its limit of work. `Memory` if memory ran out, here or in the sink. After an error, drop what `sink` has taken.
+/// over its limit of work. `Memory` if memory ran out, here or in the sink, or if a tag or a list of names has too many owners to count. After an
+/// error, drop what `sink` has taken.
 pub(crate) fn fold_texts<'a, S: FoldSink<'a>>(
     alloc: Global,
     texts: &'a TextList,
