@@ -155,7 +155,8 @@ impl<'a> ChainRequirement<'a> {
 }
 
 /// Whether the tags of all steps contain the request of a case, and their windows its moment. If so, `until` becomes the earliest not-after of
-/// these windows and of what it was. If not, some windows may be left out, and `until` means nothing. `ticks` counts as in `contains`.
+/// these windows and of what it was. If not, some windows may be left out, and `until` means nothing. A tick of `ticks`, which exist only in
+/// contracts, is a step, a tag in its tag that is looked at, or an octet that is compared.
 fn all_contain<L: Ledger>(
     steps: &[Step],
     case: &Case,
@@ -211,7 +212,7 @@ fn earlier_end(limit: &Option<Date>, window: &Window) -> Option<Date>
 }
 
 /// Whether the tag of a step contains the request of a case, and its window the moment. A definition has no tag, so only its window
-/// counts. A tick is the step, a tag in its tag that is looked at, or an octet that is compared.
+/// counts. A tick of `ticks`, which exist only in contracts, is the step, a tag in its tag that is looked at, or an octet that is compared.
 fn contains<L: Ledger>(step: &Step, case: &Case, ticks: &mut Ticks<L>) -> bool
     ensures answer { IsTrue result ↔ ((in_each case.now.request (tags_of (step_tuple step.now)) ≡ true)
         × (within_each case.now.moment (windows_of (step_tuple step.now)) ≡ true)) }

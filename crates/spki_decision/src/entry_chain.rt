@@ -22,7 +22,8 @@ use std::sync::ledger::Ledger;
 /// # Errors
 ///
 /// `TooLarge` if the product of the nodes of two tags that are to be intersected is over the case's `most_nodes`, or a step costs more than the
-/// budget has left. `Memory` if memory ran out, or if a shared part has too many owners to count.
+/// budget has left. `Memory` if memory ran out, or if a shared part has too many owners to count. What was taken from the budget before an
+/// error stays taken.
 pub(crate) fn fold_entry<'a, L: Ledger>(
     alloc: Global,
     entry: &Entry<'a>,

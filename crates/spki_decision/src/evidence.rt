@@ -45,7 +45,7 @@ pub enum Evidence<'a> {
 ///
 /// # Errors
 ///
-/// `AllocError` if memory ran out, here or in the verifier.
+/// `AllocError` if memory ran out, here or in the verifier, or if a tag or a list of names has too many owners to count.
 #[tactic(auto, using(crate::proofs::ListedSignatures::all_accepted, crate::proofs::ListedSignatures::refused_within))]
 pub fn judge<'a, V: Verifier>(
     alloc: Global,

@@ -65,14 +65,14 @@ pub(crate) enum Tested<'a> {
 }
 
 /// Tests each certificate, in order, up to the first that fails a test (RFC 2693, section 6). The tests are the first three of `Stop`, which
-/// need no verifier: the issuer's key is known, the signature is for the certificate's digest, and it is by this key. Returns the signatures of
-/// the certificates that pass. `unverified` of the result has the certificate that fails and its test, or the tuples of all certificates, which
+/// need no verifier: the issuer's key is known, the signature is for the certificate's digest, and its signer names this key. Returns the signatures
+/// of the certificates that pass. `unverified` of the result has the certificate that fails and its test, or the tuples of all certificates, which
 /// count if all these signatures are valid. Each certificate of the sequence must be followed by its signature. `policy` says which hashes may
 /// name keys.
 ///
 /// # Errors
 ///
-/// `AllocError` if memory ran out.
+/// `AllocError` if memory ran out, or if a tag or a list of names has too many owners to count.
 pub fn examine<'a>(
     alloc: Global,
     sequence: &[SeqItem<'a>],
@@ -89,8 +89,9 @@ pub fn examine<'a>(
     examined
 }
 
-/// Does the first three tests of each certificate, as `examine`. `keys` are the keys that the sequence shows; `test` may add an index to them,
-/// so they are `&mut`. It is a function of its own, so that `examine` drops the keys in one place. Err if memory ran out.
+/// Does the first three tests of each certificate, as `examine`. `keys` are the keys that the sequence shows; `test_certificate` may add an index
+/// to them, so they are `&mut`. It is a function of its own, so that `examine` drops the keys in one place. Err if memory ran out, or if a tag or
+/// a list of names has too many owners to count.
 fn examine_by<'a>(
     alloc: Global,
     sequence: &[SeqItem<'a>],
@@ -121,8 +122,8 @@ fn examine_by<'a>(
     Ok(ExaminedSequence { signed, unverified })
 }
 
-/// Appends the tuple of a certificate that passed `test` to `steps`, and its signature `one` to `signed`. The tuple's issuer is the key
-/// of the signature. Err if memory ran out, or if a tag or a list of names has too many owners to count.
+/// Appends the tuple of a certificate that passed the first three tests to `steps`, and its signature `one` to `signed`. The tuple's issuer is
+/// the key of the signature. Err if memory ran out, or if a tag or a list of names has too many owners to count.
 fn add_passed<'a>(
     steps: &mut Vec<Step<'a>>,
     signed: &mut Vec<Signed<'a>>,
@@ -138,10 +139,10 @@ fn add_passed<'a>(
     Ok(())
 }
 
-/// Does, in order, the three tests of a certificate that need no verifier. Its issuer is a key, or a hash that names a key of the sequence: this
-/// key is `holder`. The digest in its signature is that of the certificate's octets. The signer in the signature names `holder`. Returns the
-/// signature, or the first test that is not passed. The certificate must have a signature, so `unreachable!()` is not reached. `keys`, those
-/// of the sequence, are `&mut` since an index may be added; the keys stay the same. Err if memory ran out.
+/// Does, in order, the three tests of a certificate that need no verifier. Its issuer is a key, or a hash that names a key of the sequence under
+/// the policy: this key is `holder`. The digest in its signature is that of the certificate's octets. The signer in the signature names `holder`
+/// under the policy. Returns the signature, or the first test that is not passed. The certificate must have a signature, so `unreachable!()` is
+/// not reached. `keys`, those of the sequence, are `&mut` since an index may be added; the keys stay the same. Err if memory ran out.
 fn test_certificate<'a>(
     alloc: Global,
     shown: &ShownCert<'_, 'a>,

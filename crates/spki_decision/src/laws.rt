@@ -87,8 +87,8 @@ pub fn no_refusal<V: Verifier>()
 {}
 
 /// An entry may be left out of an access list if its subject's principal does not name the key of the first certificate's issuer, or the
-/// client's key if no certificate is shown. Such an entry never grants the request, and its chain is never too large: no product of the nodes
-/// of two tags that it intersects is over the case's `most_nodes`.
+/// client's key if no certificate is shown. Such an entry never grants the request. It joins no certificate, so its chain is never too large:
+/// no product of the nodes of two tags that it intersects is over the case's `most_nodes`.
 pub fn left_out()
     ensures grants { (c : Case) (tuples : List Tuple) (e : Entry) → IsLeftOut c tuples e → ¬ Supported c tuples e }
     ensures small { (c : Case) (tuples : List Tuple) (e : Entry) → IsLeftOut c tuples e
@@ -160,7 +160,8 @@ pub fn more_entries<V: Verifier>()
 {}
 
 /// If the decision with an access list is no, it is no with each list that has only entries of this one. If `decide` answers no, and not
-/// `TooLarge`, with the whole list, it answers no with the list without some of its entries.
+/// `TooLarge`, with the whole list, it answers no with the list without some of its entries. In this second part (`answer`) no entry may be
+/// repeated: it would take its work again, and the answer could be `TooLarge`.
 pub fn fewer_entries<V: Verifier>()
     ensures no { (verifier : V) (c : Case) (some : List Entry) → AreAmong some c.entries → IsDecision c (V.accepted verifier) No
         → IsDecision (with_entries c some) (V.accepted verifier) No }
@@ -170,7 +171,8 @@ pub fn fewer_entries<V: Verifier>()
 
 /// What narrower tuples support, wider ones support. An entry, or a certificate that passes its tests, becomes narrower if its tag is smaller, its
 /// window shorter, or it may no longer be delegated. In a case narrowing grants no further entry, and the decision `No` stays `No`. A case with
-/// narrower entries is a narrower case.
+/// narrower entries is a narrower case. The premises `IsRequest` and `is_date` always hold in a program: a `Ground` is well-formed, and the
+/// moment is a `Date`. They are needed, since narrower tuples are compared only by such requests and moments.
 pub fn narrower<V: Verifier>()
     ensures chain { (c : Case) (narrow wide : List Tuple) (e f : Entry) → IsRequest c.request → is_date c.moment ≡ true
         → IsNarrowerEntry e f → AllZip IsNarrower narrow wide → Supported c narrow e → Supported c wide f }

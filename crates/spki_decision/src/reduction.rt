@@ -205,7 +205,8 @@ fn entry_fold_with_new_count<'a, L: Ledger>(
 /// # Errors
 ///
 /// `TooLarge` if the product of the nodes of two tags that are to be intersected is over the case's `most_nodes`, or the work is more than
-/// the budget has. `Memory` if memory ran out, or if a shared part has too many owners to count.
+/// the budget has. `Memory` if memory ran out, or if a shared part has too many owners to count. What was taken from the budget before an
+/// error stays taken.
 pub fn entry_fold_counted<'a, L: Ledger>(
     alloc: Global,
     case: &Case<'a>,

@@ -26,7 +26,7 @@ pub(crate) struct RequiredSubject<'a> {
 }
 
 /// Returns the subject that an entry must have so that the certificates with the tuples `steps` lead from it to the
-/// key. None if there is no such subject.
+/// key. None if there is no such subject. `policy` says which hashes may name keys.
 ///
 /// After the last step the required subject is the key without names, and it need not be allowed to delegate. From the last step to the
 /// first, what is required after a step determines what is required before it. A tick of `ticks`, which exist only in contracts, is a step,
@@ -102,7 +102,8 @@ impl<'a> RequiredSubject<'a> {
 
     /// The subject that is required before `next`, an authorization step, if `self` is required after it. It is the key of the step's
     /// issuer, without names, and it must be allowed to delegate (the field `delegation`), since it issued `next`. None if the subject and
-    /// `propagate` of `next` are not as `self` requires, or if its issuer is the owner of the access list. `ticks` counts as in `is_met_by`.
+    /// `propagate` of `next` are not as `self` requires, or if its issuer is the owner of the access list. A tick is a name of the subject of
+    /// `next` that is looked at, or an octet of this subject that is compared.
     fn before_authorization<L: Ledger>(
         self,
         alloc: Global,

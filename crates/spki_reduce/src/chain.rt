@@ -164,9 +164,10 @@ fn fold_with_new_count<'a, L: Ledger>(
 }
 
 /// Joins the authorization `first` with the steps after it, as `fold_owned`. The result is the authorization that they become, or the step at
-/// which the chain stops and the cause. Operations are added to `ticks`, a count that exists only in contracts. Each step that is looked at adds
-/// one tick. A step that joins, or that would join but for its tag, costs at least one unit of `Work`, and adds at most three more ticks for
-/// each unit. So there are at most four ticks for each unit that the steps cost, and one more for a step at which the chain ends early.
+/// which the chain stops and the cause. `policy` says which hashes may name keys. `most` must be at most 1,000,000. Operations are added to
+/// `ticks`, a count that exists only in contracts. Each step that is looked at adds one tick. A step that joins, or that would join but for its
+/// tag, costs at least one unit of `Work`, and adds at most three more ticks for each unit. So there are at most four ticks for each unit that
+/// the steps cost, and one more for a step at which the chain ends early.
 ///
 /// # Errors
 ///
@@ -269,8 +270,8 @@ impl<'a> Five<'a> {
     /// not join, the result is `Stopped` with the cause. `policy` says which hashes may name keys. `most`, which must be at most
     /// 1,000,000, is the greatest product of the numbers of nodes of two tags that are intersected. Err is `TooLarge` if the step is an
     /// authorization, the two would join but for their tags, and this product is greater; or `Memory`. `ticks` counts operations, and
-    /// exists only in contracts: at most three ticks are added for each unit of `cost_with`. If they do not join, and the cause is
-    /// not `NoTag`, `cost_with` is 0, so there are no ticks.
+    /// exists only in contracts: at most three ticks are added for each unit of work that the step costs (`cost_with`). If they do
+    /// not join, and the cause is not `NoTag`, it costs 0, so there are no ticks.
     #[tactic(auto, using(crate::proofs::ReducedForms::unrefused))]
     fn joined<L: Ledger>(
         self,

@@ -61,12 +61,12 @@ impl<'a> Five<'a> {
     }
 
     /// Joins this authorization with the next one like `then`, with three differences. It consumes `self`, which a fold does not need again.
-    /// The greatest product of the numbers of nodes of both tags is `most`, which must be at most 1,000,000. The work is added to `ticks`, a
+    /// The greatest product of the numbers of nodes of both tags is `most`, which must be at most 1,000,000. Operations are added to `ticks`, a
     /// count that exists only in contracts. Err is `TooLarge` if they join except for their tags, and the product is over `most`; or `Memory`.
     ///
     /// A tick is one of `Tag::meet_counted` (a pair of tags that is looked at, a member that is copied, an octet of a string), or a name of
-    /// the next subject. There are at most three for each unit of `cost_with`, so none if they do not join and their tags are not the
-    /// cause.
+    /// the next subject. There are at most three for each unit of work that joining `next` costs (`Five::cost_with`), so none if they do
+    /// not join and their tags are not the cause.
     pub(crate) fn into_then<L: Ledger>(
         self,
         alloc: Global,
@@ -183,7 +183,8 @@ impl<'a> Five<'a> {
 
     /// Resolves the first name of this authorization's subject by a definition, as `into_resolve`, and adds its operations to `ticks`, a count
     /// that exists only in contracts. If the name and the windows fit, it adds one tick for the definition and one for each name of both subjects,
-    /// also if memory then runs out. Otherwise it adds none: comparing the name is not counted. Err is only `Memory`.
+    /// also if memory then runs out. Otherwise it adds none: comparing the name is not counted. Err is only `Memory`: memory ran out, or the
+    /// names of the definition's subject have too many owners to count.
     #[tactic(auto, using(crate::proofs::ReducedForms::resolves))]
     pub(crate) fn into_resolve_counted<L: Ledger>(
         self,
@@ -283,7 +284,8 @@ impl<'a> Five<'a> {
 
 /// What an authorization and `next`, the one after it, become: an authorization with this issuer, tag and window, and with the
 /// subject and delegation of `next`. `issuer` is that of the first, and `tag` and `window` are the intersections of those of
-/// both. `Stopped(NoTag)` if `tag` is `(* set)`. Err if memory ran out, or if the names of the subject have too many owners to count.
+/// both. `Stopped(NoTag)` if `tag` is `(* set)`, which contains no request. Err if memory ran out, or if the names of the subject
+/// have too many owners to count.
 fn narrowed<'a>(
     issuer: Issuer<'a>,
     tag: Tag,

@@ -34,7 +34,8 @@ pub fn one_root()
 {}
 
 /// A chain, which is tuples that are joined from the left, stops at most at one step, for one cause (`stop`). A chain that stops does not
-/// also become an authorization with the tag that `fold_chain` gives it, the intersection of all tags, one after another (`nothing`).
+/// also become an authorization with the tag that `fold_chain` gives it, the intersection of all tags, one after another (`nothing`). The
+/// premise on the tag is needed: `FoldsTo` says which requests the tag contains, and more tags than `(* set)` contain none.
 pub fn one_stop()
     ensures stop { (policy : Policy) (first : Tuple) (steps : List Step) (s t : ℕ) (a b : Cause) →
         StopsAt policy first (tuples_of steps) s a → StopsAt policy first (tuples_of steps) t b → (s ≡ t) × (a ≡ b) }
@@ -44,8 +45,9 @@ pub fn one_stop()
 {}
 
 /// A chain of at least two tuples becomes at most one authorization with the tag that `fold_chain` gives it: the intersection of all tags,
-/// one after another. Its window is determined too: it contains a moment, and two windows that contain the same moments, at least one, are
-/// equal. The premises `IsLimit` always hold in a program: the limits of every `Window` are dates (`Window::prove_limits`).
+/// one after another. Its window is determined too: since two tuples joined, it contains a moment, and two windows that contain the same
+/// moments, at least one, are equal. (The window of a single tuple may contain none.) The premises `IsLimit` always hold in a program: the
+/// limits of every `Window` are dates (`Window::prove_limits`).
 pub fn one_fold()
     ensures { (policy : Policy) (first : Tuple) (others : List Tuple) (f g : Five) → others ≢ [] →
         IsLimit f.window.not_before → IsLimit g.window.not_before →
