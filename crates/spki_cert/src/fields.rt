@@ -264,8 +264,8 @@ impl<'a> FieldValues<'a> {
         }
     }
 
-    /// Keeps `said`, the content of one more field, in place of an earlier content of the same kind. `read_fields` refuses a field whose
-    /// head comes twice, so there is none. `Nothing` changes nothing.
+    /// Keeps `said`, the content of one more field. `read_fields` refuses a field whose head comes twice, so no earlier content is replaced.
+    /// `Nothing` changes nothing.
     fn add(&mut self, said: FieldValue<'a>)
         ensures { self.new ≡ gather self.old said.entry }
     {

@@ -100,8 +100,8 @@ pub fn refused_list()
     ensures outer { (v : Value) (fault : CertFault) → acl_fault v ≡ Some fault → fault.item ≡ 0 → IsNoListOfEntries v fault }
 {}
 
-/// If a value has a fault as a sequence, the item of the fault says what is wrong. With an item above 0 the value is a sequence up to the
-/// member with this number. This member cannot be read, and the fault is its own; or it is a signature without a certificate, or a
+/// If a value has a fault as a sequence, the item of the fault says what is wrong. With an item above 0 the members before the one with this
+/// number are items in their places. This member cannot be read, and the fault is its own; or it is a signature without a certificate, or a
 /// certificate without its signature. With item 0 the value does not have the head `sequence`.
 #[tactic(auto, using(crate::proofs::RefusedWholes::wholes))]
 pub fn refused_sequence()
@@ -110,10 +110,11 @@ pub fn refused_sequence()
         → (is_headed (codes "sequence") v ≡ false) × (fault.kind ≡ Shape) }
 {}
 
-/// The weight of an entry bounds how much is read to test it: it counts one for the entry, the names and octets of its subject, and the
-/// octets of its tag and the tags in it. This weight is below the number of octets of the entry's canonical text. The weight of a sequence bounds
-/// the same for its certificates. It is at most four times the number of octets of the sequence's canonical text. It may be more than this
-/// number itself, because a relative name counts its issuer's principal again.
+/// The weight of an entry bounds how much is read to test it: it counts one for the entry, the names of its subject, their octets and those
+/// of the principal, and the tags in its tag and their octets. This weight is below the number of octets of the entry's canonical text. The
+/// weight of a sequence bounds the same for its certificates, with four for each in place of one. It is at most four times the number of
+/// octets of the sequence's canonical text. It may be more than this number itself, because a relative name counts its issuer's principal
+/// again.
 pub fn weights()
     ensures entry { (v : Value) (e : Entry) → EntryOf v e → entry_weight e < length (canon v) }
     ensures sequence { (v : Value) (is : List SeqItem) → SeqOf v is → items_weight is ≤ 4 * length (canon v) }

@@ -154,7 +154,7 @@ impl<'a> Names<'a> {
     ///
     /// # Errors
     ///
-    /// `AllocError` if memory ran out, or if this copy would be one too many to count (`clone`).
+    /// `AllocError` if memory ran out, or if a shared part of `others` has too many owners to count: only a copy of `others` shares it.
     pub fn behind(self, others: &Names<'a>) -> Result<Names<'a>, AllocError>
         ensures { IfOk result (λ names. names ≡ others.now ++ self.entry) }
     {

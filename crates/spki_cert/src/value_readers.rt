@@ -14,8 +14,8 @@ use crate::octets::Octets;
 use sexpr_core::syntax::{Members, Node, NodeKind};
 use sexpr_core::{Doc, NodeId};
 
-/// Reads a key from its node: `(public-key (ALG PART ..))`. Err is the first fault: `KeyUris` if a list headed `uri` follows the
-/// algorithm's list, otherwise `Shape`.
+/// Reads a key from its node: `(public-key (ALG PART ..))`. The key borrows the node's canonical octets. Err is the first fault: `KeyUris` if
+/// a list headed `uri` follows the algorithm's list, otherwise `Shape`.
 #[tactic(auto, using(crate::proofs::Heads::heads), unfolding(crate::specs::FieldFaults::key_fault))]
 pub fn key_of<'a>(node: &Node<'_, 'a>) -> Result<Key<'a>, CertFaultKind>
     ensures key { IfOk result (λ key. KeyOf node.now key) }

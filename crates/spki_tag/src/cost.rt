@@ -1,5 +1,5 @@
 //! What the intersection of a tag with another costs, from the sizes of the tag alone. The units are those of work, by which `spki_reduce`
-//! limits the folding of a chain.
+//! limits the reduction of a chain.
 
 ghost use Rattle.std.specs.{Prelude.{◌≡◌, ◌^◌, ◌<◌}, Option.{SomeIff}};
 ghost use Rattle.spki_tag.specs.{Cost.{limit_octets, node_cost, node_costs}, Leaves.{leaf_tag}, Limits.{limit_of}, Tag.{tags}};
@@ -14,7 +14,7 @@ const PLAIN: usize = 16;
 /// What a list costs, without the octets of its head and without its members: 15 for itself, 15 for its head, and 1 for a tag.
 const LIST: usize = 31;
 
-/// What a prefix or a range costs, without its octets: 48 more than a string, since two of them make a new range.
+/// What a prefix or a range costs, without its octets: 48 more than a string, since its intersection may be a new range.
 const RANGE: usize = 64;
 
 impl Tag {

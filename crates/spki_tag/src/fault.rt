@@ -64,7 +64,7 @@ pub enum MeetFault {
     /// The product of the numbers of nodes of both tags is over the limit: 1,000,000, or what the caller set.
     #[error("too many nodes to meet")]
     TooLarge,
-    /// Memory ran out, or a string has too many owners to count.
+    /// Memory ran out, or a shared part of a tag has too many owners to count.
     #[error("out of memory")]
     Memory,
 }

@@ -50,7 +50,7 @@ pub enum TagForm<'a> {
 }
 
 /// A limit of a range as a `TagLimit`, the form that callers see. None if there is no limit. The definition `limit_shown` in the contract is
-/// not this function: it is the limit of the model that a `TagLimit` shows.
+/// not this function: it returns the limit in the specification that a `TagLimit` shows.
 fn limit_shown(limit: &Option<Limit>) -> Option<TagLimit<'_>>
     ensures { limit_shown result ≡ limit_of limit.now }
 {

@@ -1,5 +1,6 @@
-//! An index of the members of a tag by kind and string. With it, another tag is intersected only with those members that can have a request
-//! in common with it, as far as their kinds and strings show.
+//! An index of the members of a tag by kind and string. The kind says what a member can contain: any requests, strings, one string, or the
+//! lists with one head. With the index, another tag is intersected only with those members that can have a request in common with it, as
+//! far as their kinds and strings show.
 
 ghost use Rattle.std.specs.{Prelude.{◌≡◌, ◌++◌, [], ℕ, List, IfOk, OnOk}, Str.{bytes_eq}};
 ghost use Rattle.spki_tag.specs.{Meet.{kind, may_share, members, places_where}, Places.{kind_of, found_at, place_if, ArePlacesOf, IsAdded}};

@@ -1,8 +1,9 @@
 //! The intersection of tags (RFC 2693, section 6.3.1). `ticks` counts the work, and exists only in contracts. A tick is a pair of tags that
 //! is looked at, a member that is copied, or an octet of the head of a list of the second tag. An octet of its other strings is three ticks,
 //! since it is compared up to three times. Making and searching an index is not counted. `meet_cost` is the nodes of the first tag times the
-//! `Tag::node_cost` of the second. An intersection takes at most three times that many ticks. A value with many parts is freed by a call of
-//! `drop`, so that the proof does not go through its parts at each exit.
+//! `Tag::node_cost` of the second, a sum over its nodes and octets. An intersection takes at most three times that many ticks. The nodes of
+//! a tag are the tags in it, itself included, and the heads of lists. A value with many parts is freed by a call of `drop`, so that the proof
+//! does not go through its parts at each exit.
 
 ghost use Rattle.std.specs.Prelude.{◌≡◌, ◌+◌, ◌*◌, ◌<◌, ◌≤◌, ◌↔◌, ◌++◌, ◌&&◌, [], max, true, false, IfOk, OnOk, IsErrOf, MatchOption, All, length};
 ghost use Rattle.std.specs.Arc.{arc_slice_items};
@@ -159,8 +160,9 @@ fn meet_each<L: Ledger>(
 }
 
 /// Returns the set of the intersections of each tag of `ones` with each of `others`, without those that are `(* set)`. The order is that of
-/// `ones`, and for each of them that of `others`. If only one is left, it is returned itself. With an index of `others`, pairs are skipped
-/// whose intersection is `(* set)` by kind and string alone. Err if memory ran out, or if a shared part has too many owners to count.
+/// `ones`, and for each of them that of `others`. If only one is left, it is returned itself. An index of `others` skips pairs that show at
+/// once that they have no request in common, such as two strings that differ, or a string and a list. Err if memory ran out, or if a shared
+/// part has too many owners to count.
 #[cycle(meet)]
 fn meet_members<L: Ledger>(
     alloc: Global,

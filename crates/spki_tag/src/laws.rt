@@ -33,23 +33,23 @@ pub fn tag_fault_none()
     ensures { (v : Value) → (tag_fault v ≡ None) ↔ ((w : Tag) × IsTag w × (tag_value w ≡ v) × (nodes w ≤ 1024)) }
 {}
 
-/// A value whose strings and display hints have only octets, numbers below 256, is read as a request without fault exactly if it is a
-/// written request.
+/// A value is read as a request without fault exactly if it is a written request. Its strings and display hints must have only octets: in
+/// contracts a string is a list of any numbers, and `request_fault` does not test that they are below 256.
 #[tactic(auto, using(crate::proofs::Faultless::request_none_exactly))]
 pub fn request_fault_none()
     ensures { (v : Value) → HasOctets v
         → (request_fault v ≡ None) ↔ ((g : Request) × IsRequest g × (request_value g ≡ v)) }
 {}
 
-/// The number of nodes of a tag is the number of tags that its written value contains: itself, and the heads of lists and the members at
-/// any depth. These are what `tag_fault` counts, so its limit of 1,024 is one of nodes.
+/// The number of nodes of a tag is the number of values that `tags_in` finds in its written form: itself, and the heads of lists and the
+/// members at any depth. These are what `tag_fault` counts, so its limit of 1,024 is one of nodes.
 #[tactic(auto, using(crate::proofs::FaultWalk::tags_count))]
 pub fn tags_counted()
     ensures { (t : Tag) → IsTag t → length (tags_in (tag_value t)) ≡ nodes t }
 {}
 
-/// The weight of a tag is the number of tags in it, itself included, plus the octets of their strings: the most ticks that
-/// `Tag::holds_counted` adds. For a tag that was read it is at most the number of octets of the canonical text.
+/// The weight of a tag is the number of tags in it, itself included, plus the octets of their strings: the most steps that
+/// `Tag::holds_counted` counts. For a tag that was read it is at most the number of octets of the canonical text.
 #[tactic(auto, using(crate::proofs::Weights::read_weight))]
 pub fn read_weight()
     ensures { (w : Tag) → weight (normal w) ≤ length (canon (tag_value w)) }
@@ -61,15 +61,19 @@ pub fn normal_form()
 {}
 
 /// In the order of octets, the strings that start with a prefix are those from the prefix itself up to, but without, the least string that
-/// is above them all. There is no such string, and no upper limit, if the prefix is empty or has only octets 255.
+/// is above them all. There is no such string, and no upper limit, if the prefix is empty or has only octets 255. The string `x` must have
+/// only octets: with the number 256 it would be above the prefix of one octet 255, and not start with it.
 #[tactic(auto, using(crate::proofs::Limits::least_above_exact))]
 pub fn prefix_is_range()
     ensures { (p x : List ℕ) → AreOctets x
         → starts_with nat_eq x p ≡ (is_above (from p) x && is_below (strict_limit (least_above p)) x) }
 {}
 
-/// What the intersection of two tags is, by their forms: `(*)`, sets, strings, prefixes, ranges and lists. `specs/Meet.antt` says what each
-/// rule is.
+/// What the intersection of two tags is, by their forms. With `(*)` it is the other tag. With a set it is made of the intersections with
+/// each member. Of a string and a string, prefix or range that contains it, it is the string. Of two prefixes it is the longer, if that
+/// starts with the shorter. A prefix and a range are intersected as two ranges. Of two ranges it has the greater lower limit and the lesser
+/// upper limit, unless these exclude each other, or one range is of times and the other of dates. Of two lists with the same head it is made
+/// member by member. Otherwise it is `(* set)`. `specs/Meet.antt` says what each rule is.
 pub fn meet_rules()
     ensures star { StarRule }
     ensures sets { SetRule }
@@ -85,7 +89,7 @@ pub fn meet_rules()
     ensures lists_and_strings { ListsAndStrings }
 {}
 
-/// The intersection of two tags in normal form contains a request exactly if both tags do.
+/// The intersection of two tags in normal form, as each `Tag` of this crate is, contains a request exactly if both tags do.
 #[tactic(auto, using(crate::proofs::Exact::meet_exact))]
 pub fn meet_exact()
     ensures { (a b : Tag) (g : Request) → IsRequest g → is_normal a ≡ true → is_normal b ≡ true

@@ -13,8 +13,8 @@ use std::alloc::AllocError;
 use std::sync::ledger::Ledger;
 use std::sync::{Arc, ArcSlice};
 
-/// Octets of a tag. Its copies share them, and so does an intersection with the tags that it was made of. A copy fails only if 2^63 would
-/// share them.
+/// Octets of a tag. Its copies share them, and so does an intersection with the tags that it was made of. A copy fails only if 2^63
+/// owners would share them.
 pub(crate) type SharedOctets = ArcSlice<u8>;
 
 /// Which strings a range may contain at all (RFC 2693, section 6.3.1).

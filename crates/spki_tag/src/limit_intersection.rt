@@ -5,8 +5,9 @@ ghost use Rattle.spki_tag.specs.{Limits.{limit_of}, Meet.{greater_low, lesser_up
 
 use crate::leaf::{Limit, is_within};
 
-/// Whether the greater of two lower limits is the first: its string is greater, or the strings are equal and it is strict. If one limit is
-/// missing, the greater is the other. For two equal limits, or two missing ones, either answer is right.
+/// Whether the greater of two lower limits is the first: its string is greater, or the strings are equal and it is strict. So `is_within`
+/// is called with `!low.strict`: it is then true of equal strings exactly if `low` is strict. If one limit is missing, the greater is the
+/// other. For two equal limits, or two missing ones, either answer is right.
 pub(crate) fn is_greater_low(one: &Option<Limit>, other: &Option<Limit>) -> bool
     ensures { let greater = greater_low (limit_of one.now) (limit_of other.now) in
         MatchBool result (greater ≡ limit_of one.now) (greater ≡ limit_of other.now) }
@@ -22,8 +23,9 @@ pub(crate) fn is_greater_low(one: &Option<Limit>, other: &Option<Limit>) -> bool
     }
 }
 
-/// Whether the lesser of two upper limits is the first: its string is less, or the strings are equal and it is strict. If one limit is
-/// missing, the lesser is the other. For two equal limits, or two missing ones, either answer is right.
+/// Whether the lesser of two upper limits is the first: its string is less, or the strings are equal and it is strict. So `is_within` is
+/// called with `!up.strict`: it is then true of equal strings exactly if `up` is strict. If one limit is missing, the lesser is the other.
+/// For two equal limits, or two missing ones, either answer is right.
 pub(crate) fn is_lesser_up(one: &Option<Limit>, other: &Option<Limit>) -> bool
     ensures { let lesser = lesser_up (limit_of one.now) (limit_of other.now) in
         MatchBool result (lesser ≡ limit_of one.now) (lesser ≡ limit_of other.now) }

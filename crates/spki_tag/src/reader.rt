@@ -1,6 +1,7 @@
-//! Reads tags. A tag may have at most 1,024 nodes as written, so each reader counts them: `used` is how many nodes of the whole tag come
-//! before what it reads, and the number that it returns is `used` plus the nodes that it has read. Nodes are tested depth first from the
-//! left, so this order says which fault is the first. The 1,025th node has the fault `TooManyNodes`.
+//! Reads tags. The nodes of a tag are the tag itself, and the heads of lists and the members in it, at any depth. A tag may have at most
+//! 1,024 nodes as written, so each reader counts them: `used` is how many nodes of the whole tag come before what it reads, and the number
+//! that it returns is `used` plus the nodes that it has read. Nodes are tested depth first from the left, so this order says which fault is
+//! the first. The 1,025th node has the fault `TooManyNodes`.
 #![tactic(auto)]
 
 ghost use Rattle.std.specs.Prelude.{◌≡◌, ◌+◌, ◌≤◌, ◌<◌, ◌∷◌, List, Some, None, IfOk, IfErr, IfSome, IsSome, IsOkUnless, codes};

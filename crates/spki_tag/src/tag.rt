@@ -156,7 +156,7 @@ fn nodes_of(members: &[Tag]) -> usize
 }
 
 /// A copy has the same value. It shares the members of a list or a set, and the octets of strings, so it takes no time for them. It fails
-/// only if 2^63 would share them.
+/// only if 2^63 owners would share them.
 impl Clone for Tag {
     ghost is_clone = { λ t u. u ≡ t };
 
