@@ -46,9 +46,9 @@ impl<T> Metered<T> {
         }
     }
 
-    /// Resets the counts to 0, and `ended` and `flushed` to false. `earlier` grows by `asks`. The reader or writer inside does not
-    /// change. A caller that uses one meter for several runs, such as of a command, calls this before each: then the counts and the
-    /// limits are those of this run alone.
+    /// Resets `asks` and `faults` to 0, and `ended` and `flushed` to false. Before that `asks` is added to `earlier`, up to the greatest
+    /// `u64`. The reader or writer inside does not change. A caller that uses one meter for several runs, such as of a command, calls this
+    /// before each: then the counts and the limits are those of this run alone.
     pub fn restart(&mut self)
         ensures asks { asks_of self.new ≡ 0 }
         ensures faults { faults_of self.new ≡ 0 }
