@@ -7,8 +7,8 @@ use std::io;
 use std::io::{Error, ErrorKind, Read, Write};
 
 /// Passes calls on to a reader or a writer, and counts them. `read_whole`, `write_octets`, `flush_writer` and
-/// `write_whole` fail at a count of calls, so that they end even if every call is interrupted. The other fields say, to
-/// callers and in contracts, how the calls ended.
+/// `write_whole` fail at a count of calls, so that they end even if every call is interrupted. `faults`, `ended` and
+/// `flushed` say, to callers and in contracts, how the calls ended.
 #[derive(Drop)]
 pub struct Metered<T> {
     /// How many reads, writes and flushes were passed on since `new` or `restart`.
