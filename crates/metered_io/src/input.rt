@@ -119,8 +119,8 @@ fn append(text: &mut Vec<u8>, octets: &[u8], most: usize) -> Result<(), ReadFaul
 }
 
 /// Reads the whole text of a reader, of at most `most` octets. A read that fails with `Interrupted` is repeated. The
-/// reader is called only while its count of calls, `asks`, is below 2,097,152. This count includes calls before this
-/// function, since `new` or `restart`. At most `most` octets and one more are taken from the reader.
+/// reader is called only while its count of calls, `asks`, is below 2,097,152 (`READER_ASKS`). This count includes calls
+/// before this function, since `new` or `restart`. At most `most` octets and one more are taken from the reader.
 ///
 /// # Errors
 ///

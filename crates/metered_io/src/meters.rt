@@ -7,8 +7,8 @@ use std::io;
 use std::io::{Error, ErrorKind, Read, Write};
 
 /// Passes calls on to a reader or a writer, and counts them. `read_whole`, `write_octets`, `flush_writer` and
-/// `write_whole` fail at a count of calls, so that they end even if every call is interrupted. The other fields say, to
-/// callers and in contracts, how the calls ended.
+/// `write_whole` fail at a count of calls, so that they end even if every call is interrupted. `faults`, `ended` and
+/// `flushed` say, to callers and in contracts, how the calls ended.
 #[derive(Drop)]
 pub struct Metered<T> {
     /// How many reads, writes and flushes were passed on since `new` or `restart`.
@@ -46,9 +46,9 @@ impl<T> Metered<T> {
         }
     }
 
-    /// Resets the counts to 0, and `ended` and `flushed` to false. `earlier` grows by `asks`. The reader or writer inside does not
-    /// change. A caller that uses one meter for several runs, such as of a command, calls this before each: then the counts and the
-    /// limits are those of this run alone.
+    /// Resets `asks` and `faults` to 0, and `ended` and `flushed` to false. Before that `asks` is added to `earlier`, up to the greatest
+    /// `u64`. The reader or writer inside does not change. A caller that uses one meter for several runs, such as of a command, calls this
+    /// before each: then the counts and the limits are those of this run alone.
     pub fn restart(&mut self)
         ensures asks { asks_of self.new ≡ 0 }
         ensures faults { faults_of self.new ≡ 0 }

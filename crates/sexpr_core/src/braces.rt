@@ -225,7 +225,10 @@ pub fn unwrap_braces(alloc: Global, text: &[u8]) -> Result<Sexp, FormFault>
 ///
 /// # Errors
 ///
-/// `TooLong`, `Short`, `Bad`, `TooDeep`, `Trailing` or `Memory`, each as listed at `unwrap_braces`, which calls this.
+/// As of `unwrap_braces`, which calls this. TooLong: the text has more than `MOST_OCTETS` octets. Otherwise the first
+/// fault from the left. Bad: at an octet that is not allowed in its place, or at the closing brace if the body is no
+/// base64 of a canonical form. TooDeep: the body opens more than `MOST_LISTS` lists at once. Short: the text ends before
+/// the closing brace. Trailing: an octet after the braces is not whitespace. Memory: memory ran out.
 pub fn octets_in_braces(alloc: Global, text: &[u8]) -> Result<Vec<u8>, FormFault>
     ensures read { IfOk result (λ octets. (v : Value) × IsBracedWithin text.now v × (octets.items ≡ canon v)) }
     ensures only { (v : Value) → IsBracedWithin text.now v → IsOkUnless result FormFault.Memory }

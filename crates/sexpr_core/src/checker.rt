@@ -1,5 +1,7 @@
 //! Checks that a text is in canonical form (RFC 9804, section 6.2), without a table of its nodes. `octets_in_braces`
-//! calls `check_canonical` for the octets that it has decoded: it returns only these octets, and needs no table.
+//! calls `check_canonical` for the octets that it has decoded: it returns only these octets, and needs no table. Of the
+//! faults (`FormFault`) `TooDeep` means that too many lists are open, `Short` that the text ends too soon, `Bad` that an
+//! octet is not allowed in its place, `Trailing` that one follows the value.
 
 ghost use Rattle.std.specs.Prelude.{◌≡◌, ◌<◌, ◌≤◌, ◌↔◌, length, drop, MatchResult, IfErr, OnOk, IsErrOf, IsOkUnless};
 ghost use Rattle.sexpr_core.specs.Value.{Value, canon, IsWithinLimits};

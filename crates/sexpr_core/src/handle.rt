@@ -92,7 +92,7 @@ impl<'d, 'a> Node<'d, 'a> {
         NodeKind::String { hint: None, body }
     }
 
-    /// The octets of the node, which must be a string, without its display hint.
+    /// The octets of the node, which must be a string, without its display hint. In its record they begin at `detail`.
     fn body_octets(&self) -> &'a [u8]
         requires { body_of self.now ≢ None }
         ensures { Some result.now ≡ body_of self.now }

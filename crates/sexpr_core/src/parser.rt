@@ -1,4 +1,6 @@
-//! The reader of canonical form (RFC 9804, section 6.2).
+//! The reader of canonical form (RFC 9804, section 6.2). For each node, which is a string or a list, it makes a record of
+//! its place in the text (`Record`). Of the faults (`FormFault`) `TooDeep` means that too many lists are open, `Short`
+//! that the text ends too soon, `Bad` that an octet is not allowed in its place, `Trailing` that one follows the value.
 
 ghost use Rattle.std.specs.Prelude.{◌≡◌, ℕ, ◌+◌, ◌<◌, ◌≤◌, ◌≢◌, ◌↔◌, [], ◌∷◌, length, drop, MatchOption, MatchResult, IfOk, IfErr, IsErrOf, IsOkUnless};
 ghost use Rattle.sexpr_core.specs.Reading.{Refused, IsCanon, IsCanonWithin, IsMembers, IsMembersWithin, IsLength, IsVerbatim, IsClosing, StandsAt, ReadsLength, ReadsVerbatim, ReadsString, ReadsValue, ReadsMembers};

@@ -1,4 +1,5 @@
-//! Prints canonical texts in advanced form, without a tree. A printed octet goes to a sink, as in `printer`.
+//! Prints canonical texts in advanced form, without a tree. A printed octet goes to a sink, such as one that appends it to
+//! a vector or only counts it. A sink is full if what is put from now on does not matter, such as after a failure.
 
 ghost use Rattle.std.specs.Prelude.{◌≡◌, ℕ, List, ◌∷◌, ◌++◌};
 ghost use Rattle.sexpr_core.specs.Value.{Value, Values, list, verbatim, canon, canons};

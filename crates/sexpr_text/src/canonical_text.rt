@@ -55,8 +55,8 @@ pub enum OpenText<'d> {
 impl<'t> CanonicalText<'t> {
     /// Reads a text in canonical, transport or advanced form. A canonical text is not copied, and is parsed once. Another
     /// text is converted. A text without a value within the limits is no error here: `document` returns the fault of
-    /// `convert`, or `TooLong` if the canonical form is too long. The fault is `TooLong` exactly if the text, or its
-    /// canonical form, has more than 1,048,576 octets.
+    /// `convert`, or `TooLong` if the canonical form is too long. The fault is `TooLong` exactly if the text, or the
+    /// canonical form that `convert` returns, has more than 1,048,576 octets.
     ///
     /// # Errors
     ///
@@ -113,7 +113,8 @@ impl<'t> CanonicalText<'t> {
     ///
     /// # Errors
     ///
-    /// The fault of the given text, if it has no value within the limits. `Memory` if memory ran out.
+    /// The fault of the given text, if it has no value within the limits. `TooLong` also if its canonical form, or
+    /// what was given to `made`, has more than 1,048,576 octets. `Memory` if memory ran out.
     pub fn document<'d>(&'d self, alloc: Global) -> Result<OpenText<'d>, FormFault>
         ensures read { IfOk result (λ opened. self.entry.now ≡ Ok (canon (opened_value opened))) }
         ensures refused { IfErr result (λ fault. fault ≢ FormFault.Memory → self.entry.now ≡ Err fault) }

@@ -1,4 +1,6 @@
-//! Converts texts to another form while they are read.
+//! Converts texts to another form while they are read. Of the faults (`FormFault`) `TooDeep` means that too many
+//! lists are open, `Short` that the text ends too soon, `Bad` that an octet is not allowed in its place, `Trailing` that one
+//! follows the value.
 
 ghost use Rattle.std.specs.Prelude.{◌≡◌, ℕ, List, ◌<◌, ◌≤◌, ◌↔◌, [], ◌∷◌, ◌++◌, true, false, length, drop, IfOk, IfErr, OnOk, IsErrOf, IsOkUnless};
 ghost use Rattle.std.specs.Option.{option_to_list};

@@ -1,4 +1,5 @@
-//! Reads strings with a display hint (RFC 9804, section 4.6).
+//! Reads strings with a display hint (RFC 9804, section 4.6). The fault `Short` means that the text ends too soon, `Bad`
+//! that an octet is not allowed in its place.
 
 ghost use Rattle.std.specs.{Prelude.{◌≡◌, ℕ, List, Some, ◌≤◌, length, IfOk, IfErr, IsOkUnless}, Cow.{cow_slice_items}};
 ghost use Rattle.sexpr_core.specs.{Reading.{RefusesPart, StandsAt}, Value.{Value, string}};

@@ -1,4 +1,5 @@
-//! Prints advanced form. A printed octet goes to a sink, such as one that appends it to a vector or only counts it.
+//! Prints advanced form. A printed octet goes to a sink, such as one that appends it to a vector or only counts it. A sink
+//! is full if what is put from now on does not matter, such as after a failure.
 
 ghost use Rattle.std.specs.Prelude.{◌≡◌, ◌≤◌, ◌==◌, ◌||◌, [], ◌++◌, ◌∷◌, length, IfOk};
 ghost use Rattle.sexpr_core.specs.Value.{HasOctets, atom_value, sexp_value};

@@ -1,4 +1,5 @@
-//! The reader of advanced form (RFC 9804, section 6.4).
+//! The reader of advanced form (RFC 9804, section 6.4). Of the faults (`FormFault`) `TooDeep` means that too many lists are
+//! open, `Short` that the text ends too soon, `Bad` that an octet is not allowed in its place.
 
 ghost use Rattle.std.specs.Prelude.{◌≡◌, ℕ, List, ◌<◌, ◌≤◌, ◌↔◌, ◌∷◌, length, drop, map, IfOk, IfErr, IsErrOf, IsOkUnless, IsTrue};
 ghost use Rattle.sexpr_core.specs.{Reading.{RefusesPart, StandsAt, AreSpaces}, Value.{sexp_value, Value, Values, values}};

@@ -1,4 +1,4 @@
-//! Where printed octets go: a vector, a count, or what a crate above writes to.
+//! Where printed octets go: a vector, a count, or a sink that another crate defines.
 
 ghost use Rattle.std.specs.Prelude.{◌≡◌, ℕ, List, [], ◌∷◌, ◌++◌, Bool, true, false, OnOk, OnErr};
 ghost use Rattle.sexpr_text.specs.Sinks.{VectorTakes, IsCounted, lender_of, text_of, has_failed, count_of, is_at_end, vector_takes_nothing, vector_takes_both, vector_stays, nothing_counted, both_counted, counter_stays};

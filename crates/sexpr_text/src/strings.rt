@@ -1,4 +1,5 @@
-//! Reads strings without a display hint (RFC 9804, sections 4.1 to 4.5).
+//! Reads strings without a display hint (RFC 9804, sections 4.1 to 4.5). The fault `Short` means that the text ends too
+//! soon, `Bad` that an octet is not allowed in its place.
 
 ghost use Rattle.std.specs.Prelude.{◌≡◌, ℕ, List, ◌++◌, true, false, ◌+◌, ◌<◌, ◌≤◌, ◌⊎◌, length, drop, IfOk, IfErr, IsOkUnless};
 ghost use Rattle.std.specs.Cow.{cow_slice_items};

@@ -95,8 +95,10 @@ const MOST_WORK: usize = 2_300_000_000;
 impl<'a> Case<'a> {
     ghost use Rattle.spki_case.specs.View.{model};
 
-    /// Reads a case from its canonical text. Of its limits `most_nodes` and `uncounted` are 1,000,000 (`MOST_NODES`), and `most_work` is
-    /// 2,300,000,000 (`MOST_WORK`). A caller who has opened the text as a document calls `of` instead.
+    /// Reads a case from its canonical text. The text contains no limits for intersecting tags, so these fields are constants:
+    /// `most_nodes`, for two tags, and `uncounted`, the size up to which an entry with its certificates does not count as work, are
+    /// 1,000,000 (`MOST_NODES`), and `most_work` is 2,300,000,000 (`MOST_WORK`). A caller who has opened the text as a document calls `of`
+    /// instead.
     ///
     /// # Errors
     ///
@@ -116,9 +118,9 @@ impl<'a> Case<'a> {
     }
 
     /// Reads a case from its node: `(case (acl ..) (accepted ..) (sequence ..) (key K) (request G) (at DATE))`, with or without
-    /// `(policy strict)` behind the moment. Of its limits `most_nodes` and `uncounted` are `MOST_NODES`, and `most_work` is `MOST_WORK`, as
-    /// in `read`. Its keys get the digests by which they may be compared with hashes (module `digests`); this saves time and changes no
-    /// answer.
+    /// `(policy strict)` behind the moment. The value contains no limits for intersecting tags, so these fields are constants:
+    /// `most_nodes` and `uncounted` are `MOST_NODES`, and `most_work` is `MOST_WORK`, as in `read`. Its keys get the digests by which they
+    /// may be compared with hashes (module `digests`); this saves time and changes no answer.
     ///
     /// # Errors
     ///
@@ -173,10 +175,11 @@ impl<'a> Case<'a> {
     }
 
     /// Makes a case with an empty access list and an empty accepted list, for a question to a separate access list, such as that of a
-    /// guard, which reads its list once. Each certificate in `sequence` must be followed by its signature. `most_nodes`, which must be at
-    /// most 1,000,000, and `most_work` become the fields of these names. `uncounted` is 0, so all chains count as work, and `most_work`
-    /// bounds it. `algorithms` are those of the hashes in the separate list that may name keys under the policy. The keys get the digests
-    /// by which they may be compared with these hashes and with those in the sequence; this saves time and changes no answer.
+    /// guard, which reads its list once. Each certificate in `sequence` must be followed by its signature. `most_nodes`, the limit for two
+    /// tags that are intersected, must be at most 1,000,000. `most_work` is the limit for the work of all entries together. The field
+    /// `uncounted` is 0: no entry is so small that its work does not count. `algorithms` are those of the hashes in the separate list that
+    /// may name keys under the policy. The keys get the digests by which they may be compared with these hashes and with those in the
+    /// sequence; this saves time and changes no answer.
     ///
     /// # Errors
     ///

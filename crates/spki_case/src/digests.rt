@@ -69,8 +69,8 @@ fn digest_principal(principal: &mut Principal, algorithms: Algorithms)
     }
 }
 
-/// Returns `algorithms`, and those of the hashes in a sequence that may name keys under the policy. `item_algorithms` says which hashes an
-/// item has.
+/// Returns the set `algorithms` with those of the hashes in a sequence that may name keys under the policy. `item_algorithms` says which
+/// hashes an item has.
 fn all_algorithms(algorithms: Algorithms, items: &[SeqItem], policy: Policy) -> Algorithms {
     let mut algorithms = algorithms;
     for item in items {
@@ -88,7 +88,7 @@ pub(crate) fn entry_algorithms(acl: &[Entry], policy: Policy) -> Algorithms {
     algorithms
 }
 
-/// Returns `algorithms`, and those of the hashes in an item that may name keys under the policy: the issuer and the subject of a
+/// Returns the set `algorithms` with those of the hashes in an item that may name keys under the policy: the issuer and the subject of a
 /// certificate, and the signer of a signature.
 fn item_algorithms(algorithms: Algorithms, item: &SeqItem, policy: Policy) -> Algorithms {
     match item {

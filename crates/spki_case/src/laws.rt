@@ -25,7 +25,7 @@ pub fn no_refusal()
     ensures rows { (text : List ℕ) (rows : List Row) (fault : RowsFault) → IsRowsText text rows → ¬ RowsTextRefused text fault }
 {}
 
-/// A value, or a text, is at most one case.
+/// A value, or a text, has at most one reading as a case.
 pub fn one_case()
     ensures value { (v : Value) (c d : Case) → CaseOf v c → CaseOf v d → c ≡ d }
     ensures text { (text : List ℕ) (c d : Case) → IsCaseText text c → IsCaseText text d → c ≡ d }
@@ -39,7 +39,8 @@ pub fn one_fault()
 {}
 
 /// A value has no fault as a row of an accepted list exactly if it has a reading as one. The same holds for a list of values as the rows,
-/// and for the parts of a case if the octets of its request are below 256, as they are in every text.
+/// and for the parts of a case if the octets of its request are below 256, as they are in every text. In definitions an octet is any natural
+/// number: a larger one is no fault, but no request has it.
 pub fn no_case_fault()
     ensures row { (v : Value) → (row_fault v ≡ None) ↔ ((row : Row) × RowOf v row) }
     ensures rows { (vs : List Value) → (rows_fault vs ≡ None) ↔ ((rows : List Row) × AllZip RowOf vs rows) }

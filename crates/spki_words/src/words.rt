@@ -89,7 +89,7 @@ fn bare<'a>(alloc: Global) -> clap::Command<'a>
         .disable_help_subcommand(true)
 }
 
-/// The command as a subcommand of `clap`, with its word and its help. It takes no arguments.
+/// The command as a subcommand of `clap`, with its word and its help. It takes no arguments. The types of the locals shorten `'static` to `'a`.
 fn subcommand<'a>(alloc: Global, command: Command) -> clap::Command<'a>
     ensures { IsProgram (leaf command) result }
 {
