@@ -64,7 +64,7 @@ func TestFewerEnded(t *testing.T) {
 		isBobsEnded     bool
 		name            string
 	}{
-		{digestOfText(s.toBob) + "\n", false, true, true, "the same"}, {"", false, false, true, "none"},
+		{digestOfText(s.toBob) + "\n", false, true, true, "the first"}, {"", false, false, true, "none"},
 		{digestOfText(s.toCarol) + "\n", false, false, true, "another one"},
 		{digestOfText(s.toCarol) + "\n" + digestOfText(s.toBob) + "\n", false, true, true, "one more"},
 		{digestOfText(s.toCarol) + "\n", true, true, false, "one fewer, as wanted"}, {"", false, false, false, "none, later"},

@@ -71,7 +71,7 @@ class GrowingTags(LargeTags):
 
     def __init__(self, rng: random.Random) -> None:
         super().__init__(rng)
-        self.lengths = (2,)
+        self.lengths = (2,)  # (how many certificates the case may have)
         self.left = [many_strings(b"set", rng.choice((101, 102))), many_strings(b"list", rng.choice((100, 101)))]
 
     def tag(self) -> Value:

@@ -336,14 +336,14 @@ def explained_evidence():
     for name, shown, why in (("no key shown", signed(by_hash, a), "KeyNotShown"), ("signed by another", signed(by_hash, b) + a, "SignerDiffers"),
                              ("digest of another text", signed(by_hash, a, message=c1) + a, "DigestDiffers")):
         yield f"hash issuer: {name}", case(entry("a"), row(by_hash, a), shown, b), (1, f"item 1 {why}\n"), (1, f"item 1 {why}\n")
-    first, later = (1, "item 1 NotAccepted\n"), (1, "item 4 NotAccepted\n")
+    first, later = (1, "item 1 NotAccepted\n"), (1, "item 4 NotAccepted\n")  # (item 4: c2, behind c1, its signature and a key)
     yield "not accepted", case(entry("a"), "", items, b), first, first
     yield "evidence behind a key", case(entry("a"), rows, items + a + signed(c2, b), c), later, later
     yield "no entries where evidence fails", case("", "", items, b), first, first
     yield "no entries", case("", rows, items, b), NONE, NONE
-    _, second = reduced_to(b)
+    _, line_of_b = reduced_to(b)
     yield "second entry", case(f"(entry {c} (tag (*)))" + entry("a"), rows, items, a), \
-        (0, f"entry 1 item 1 NotIssuer\n{second.replace('entry 1', 'entry 2')}"), (1, "entry 1 item 1 NotIssuer\nentry 2 NotTheKey\n")
+        (0, f"entry 1 item 1 NotIssuer\n{line_of_b.replace('entry 1', 'entry 2')}"), (1, "entry 1 item 1 NotIssuer\nentry 2 NotTheKey\n")
 
 
 def answer_of_check(lines):

@@ -173,8 +173,9 @@ def of_strings_in_chains() -> Iterator[CallRow]:
     for third in (101, 102, 1_023):  # (1,023 strings are the most in a tag)
         first, second = cert(KA, KB, f"(propagate) {tag}"), cert(KB, KC, f"(tag (* set{' a' * third}))")
         sequence = f"(sequence {signed(first, KA)} {signed(second, KB)})".encode()
+        guard = (f"(acl (entry {KA} (propagate) {tag}))".encode(), b"open", b"", b"")  # (by the greatest limits of octets and nodes)
         for request, answer in ((b"a", b"Yes(1)"), (b"b", b"No")):
-            arguments = (f"(acl (entry {KA} (propagate) {tag}))".encode(), b"open", b"", b"", sequence, KC.encode(), request, NOW, b"11")
+            arguments = (*guard, sequence, KC.encode(), request, NOW, b"11")  # (both signatures are marked)
             yield CallRow(f"calls/limits:{third} strings, {request.decode()}", "PreparedQuestion::decide_by", arguments, answer)
 
 
