@@ -57,9 +57,9 @@ def functions_of(folder: str, texts: dict[str, str]) -> list[str]:
 
 
 def refuses(crate: str, path: str, output: str) -> bool:
-    """Whether a check shows that the contract of the function `path` itself is unproved: not only that of what it calls, and not only because a proof
-    file names what is gone. `output` is that of the check. A line `fn CRATE::PATH: VERDICT` there is a verdict on this function alone, since a proof
-    rests on the contracts of other functions, and not on their bodies."""
+    """Whether a check's output shows that the contract of the function `path` itself, by its last name, is unproved: not only that of what it calls.
+    A line `fn CRATE::PATH: VERDICT` is about one function: proofs rest on contracts of others, not on bodies. `not proved` may only mean that a proof
+    file names what is gone, while `did not prove` says that the prover tried."""
     name = path.rpartition("::")[2]
     verdicts = re.findall(rf"^fn {crate}::(?:\S+::)?{name}: (.*)$", output, re.MULTILINE)
     errors = re.findall(rf"^(?:\./)?proofs/(?:[\w+]+/)*{name}/\S*: error.*$", output, re.MULTILINE)

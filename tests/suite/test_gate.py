@@ -215,7 +215,7 @@ class Commands(unittest.TestCase):
         self.assertNotEqual(gate.returncode, 0)
 
     def test_gate(self) -> None:
-        """The gate runs its parts in order, up to the first that fails, and counts them."""
+        """The gate runs its parts, minutes and a command each, up to the first whose last line counts a failure, and adds up what they count."""
         parts = [(1, ["echo", line]) for line in ("2 passed, 0 failed", "1 passed, 3 failed", "4 passed, 0 failed")]
         with contextlib.redirect_stdout(io.StringIO()) as printed, mock.patch.object(plan, "GATE", parts), \
                 mock.patch.object(landing, "remove_kept_libraries"):

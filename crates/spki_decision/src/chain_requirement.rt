@@ -49,9 +49,9 @@ impl<'a> ChainRequirement<'a> {
         ChainRequirement::of_with_new_count::<Brand>(alloc, case, steps, Blank::new(1))
     }
 
-    /// Does what `of` does: calls `of_counted` with its arguments and a new count of ticks (operations that contracts count). The count exists
-    /// only in contracts, and is dropped afterwards. `blank` is a new ledger of the toolchain, to keep the count in; it must be that of `L`. This
-    /// is a function of its own, since only the call of a generic function can pick the type `L` of a count. Err if memory ran out.
+    /// Does what `of` does: calls `of_counted` with its arguments and a new count of ticks (operations that contracts count). The count exists only
+    /// in contracts, and is dropped afterwards. `blank` is a new ledger of the toolchain, to keep the count in; it must be that of `L`. `L` has a
+    /// name only in a generic function, such as this one: its caller writes `Brand` for it. Err if memory ran out.
     fn of_with_new_count<L: Ledger>(
         alloc: Global,
         case: &Case<'a>,
@@ -108,8 +108,8 @@ impl<'a> ChainRequirement<'a> {
     }
 
     /// Does what `grants` does: calls `grants_counted` with its arguments and a new count of ticks (operations that contracts count). The count
-    /// exists only in contracts, and is dropped afterwards. `blank` is a new ledger of the toolchain, to keep the count in; it must be that of
-    /// `L`. This is a function of its own, since only the call of a generic function can pick the type `L` of a count.
+    /// exists only in contracts, and is dropped afterwards. `blank` is a new ledger of the toolchain, to keep the count in; it must be that of `L`.
+    /// `L` has a name only in a generic function, such as this one: its caller writes `Brand` for it.
     fn grants_with_new_count<L: Ledger>(&self, entry: &Entry, case: &Case, blank: Blank) -> bool
         requires name { blank.name ≡ L.name }
         requires parts { blank.parts ≡ L.parts }

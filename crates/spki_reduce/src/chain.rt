@@ -114,7 +114,7 @@ pub fn fold_owned<'a>(
 
 /// Does what `fold_owned` does, with its arguments and its errors `TooLarge` and `Memory`: calls `fold_owned_counted` with a new count of ticks
 /// (operations that contracts count). The count exists only in contracts, and is dropped afterwards. `blank` is a new ledger of the toolchain, to
-/// keep the count in; it must be that of `L`. This is a function of its own, since only the call of a generic function can pick the type `L`.
+/// keep the count in; it must be that of `L`. `L` has a name only in a generic function, such as this one: its caller writes `Brand` for it.
 fn fold_with_new_count<'a, L: Ledger>(
     alloc: Global,
     first: Five<'a>,

@@ -161,8 +161,8 @@ impl<'a> Five<'a> {
     }
 
     /// Does what `into_resolve` does, with its arguments and its only error `Memory`: calls `into_resolve_counted` with a new count of ticks
-    /// (operations that contracts count). The count exists only in contracts, and is dropped afterwards. `blank` is a new ledger of the toolchain,
-    /// to keep the count in; it must be that of `L`. This is a function of its own, since only the call of a generic function can pick the type `L`.
+    /// (operations that contracts count). The count exists only in contracts, and is dropped afterwards. `blank` is a new ledger of the toolchain, to
+    /// keep the count in; it must be that of `L`. `L` has a name only in a generic function, such as this one: its caller writes `Brand` for it.
     fn into_resolve_with_new_count<L: Ledger>(
         self,
         definition: &Four<'a>,

@@ -91,8 +91,8 @@ fn node_has_more_strings(node: &Node, most: usize) -> bool
     }
 }
 
-/// Subtracts the number of strings in a value from `room`, which is how many may still come. None if the value has more. `node` is a
-/// string, or a list, whose members are counted.
+/// Subtracts the number of strings in a value, at any depth, from `room`, which is how many may still come. None if the value has more. `node`
+/// is the value: a string, or a list.
 #[cycle(subtract_strings)]
 fn subtract_strings(room: usize, node: &Node) -> Option<usize>
     ensures { MatchOption result (room < strings_in node.now) (λ left. left + strings_in node.now ≡ room) }

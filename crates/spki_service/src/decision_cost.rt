@@ -62,9 +62,9 @@ impl<'a> PreparedQuestion<'a> {
         }
     }
 
-    /// Does the work of `grant_by`: calls `grant_by_counted` with a new count of ticks (operations that contracts count). The count exists only
-    /// in contracts, and is dropped afterwards. `blank` is a new ledger of the toolchain, to keep the count in; it must be that of `L`. This is a
-    /// function of its own, since only the call of a generic function can pick the type `L`. None if nothing is granted. Err if memory ran out.
+    /// Does the work of `grant_by`: calls `grant_by_counted` with a new count of ticks (operations that contracts count). The count exists only in
+    /// contracts, and is dropped afterwards. `blank` is a new ledger of the toolchain, to keep the count in; it must be that of `L`. `L` has a name
+    /// only in a generic function, such as this one: its caller writes `Brand` for it. None if nothing is granted. Err if memory ran out.
     pub(crate) fn grant_by_with_new_count<L: Ledger>(
         &self,
         alloc: Global,
@@ -100,8 +100,8 @@ impl<'a> PreparedQuestion<'a> {
     }
 
     /// Does the work of `granted`: calls `granted_counted` with a new count of ticks (operations that contracts count). The count exists only in
-    /// contracts, and is dropped afterwards. `blank` is a new ledger of the toolchain, to keep the count in; it must be that of `L`. This is a
-    /// function of its own, since only the call of a generic function can pick the type `L`. None if nothing is granted. Err if memory ran out.
+    /// contracts, and is dropped afterwards. `blank` is a new ledger of the toolchain, to keep the count in; it must be that of `L`. `L` has a name
+    /// only in a generic function, such as this one: its caller writes `Brand` for it. None if nothing is granted. Err if memory ran out.
     pub(crate) fn granted_with_new_count<L: Ledger>(
         &self,
         alloc: Global,

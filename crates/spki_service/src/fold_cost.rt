@@ -56,9 +56,9 @@ impl<'a> PreparedQuestion<'a> {
         }
     }
 
-    /// Does the work of `explain_by`: calls `explain_by_counted` with a new count of ticks (operations that contracts count). The count exists
-    /// only in contracts, and is dropped afterwards. `blank` is a new ledger of the toolchain, to keep the count in; it must be that of `L`. This
-    /// is a function of its own, since only the call of a generic function can pick the type `L`. Err is `TooLarge` or `Memory`.
+    /// Does the work of `explain_by`: calls `explain_by_counted` with a new count of ticks (operations that contracts count). The count exists only
+    /// in contracts, and is dropped afterwards. `blank` is a new ledger of the toolchain, to keep the count in; it must be that of `L`. `L` has a
+    /// name only in a generic function, such as this one: its caller writes `Brand` for it. Err is `TooLarge` or `Memory`.
     pub(crate) fn explain_by_with_new_count<L: Ledger>(
         &self,
         alloc: Global,
@@ -100,9 +100,9 @@ impl<'a> PreparedQuestion<'a> {
         }
     }
 
-    /// Does the work of `reduce_by`: calls `reduce_by_counted` with a new count of ticks (operations that contracts count). The count exists
-    /// only in contracts, and is dropped afterwards. `blank` is a new ledger of the toolchain, to keep the count in; it must be that of `L`. This
-    /// is a function of its own, since only the call of a generic function can pick the type `L`. Err is `TooLarge` or `Memory`.
+    /// Does the work of `reduce_by`: calls `reduce_by_counted` with a new count of ticks (operations that contracts count). The count exists only in
+    /// contracts, and is dropped afterwards. `blank` is a new ledger of the toolchain, to keep the count in; it must be that of `L`. `L` has a name
+    /// only in a generic function, such as this one: its caller writes `Brand` for it. Err is `TooLarge` or `Memory`.
     pub(crate) fn reduce_by_with_new_count<L: Ledger>(
         &self,
         alloc: Global,
@@ -175,9 +175,9 @@ impl<'a> PreparedQuestion<'a> {
     }
 
     /// The explanation if all listed signatures are valid, for `explain`: calls `explained_counted` with a new count of ticks (operations that
-    /// contracts count). The count exists only in contracts, and is dropped afterwards. `blank` is a new ledger of the toolchain, to keep the
-    /// count in; it must be that of `L`. This is a function of its own, since only the call of a generic function can pick the type `L`. Err is
-    /// `TooLarge` or `Memory`.
+    /// contracts count). The count exists only in contracts, and is dropped afterwards. `blank` is a new ledger of the toolchain, to keep the count
+    /// in; it must be that of `L`. `L` has a name only in a generic function, such as this one: its caller writes `Brand` for it. Err is `TooLarge`
+    /// or `Memory`.
     pub(crate) fn explained_with_new_count<L: Ledger>(
         &self,
         alloc: Global,
@@ -212,10 +212,9 @@ impl<'a> PreparedQuestion<'a> {
         }
     }
 
-    /// The reduction if all listed signatures are valid, for `reduce`: calls `reduced_counted` with a new count of ticks (operations that
-    /// contracts count). The count exists only in contracts, and is dropped afterwards. `blank` is a new ledger of the toolchain, to keep the
-    /// count in; it must be that of `L`. This is a function of its own, since only the call of a generic function can pick the type `L`. Err is
-    /// `TooLarge` or `Memory`.
+    /// The reduction if all listed signatures are valid, for `reduce`: calls `reduced_counted` with a new count of ticks (operations that contracts
+    /// count). The count exists only in contracts, and is dropped afterwards. `blank` is a new ledger of the toolchain, to keep the count in; it must
+    /// be that of `L`. `L` has a name only in a generic function, such as this one: its caller writes `Brand` for it. Err is `TooLarge` or `Memory`.
     pub(crate) fn reduced_with_new_count<L: Ledger>(
         &self,
         alloc: Global,

@@ -38,9 +38,9 @@ pub(crate) fn first_unmarked(count: usize, marks: &[bool]) -> Option<usize>
     first_unmarked_with_new_count::<Brand>(count, marks, Blank::new(1))
 }
 
-/// Does the work of `first_unmarked`, for `count` places: calls `first_unmarked_counted` with a new count of ticks (operations that contracts
-/// count). The new count exists only in contracts, and is dropped afterwards. `blank` is a new ledger of the toolchain, to keep it in, and must
-/// be that of `L`. This is a function of its own, since only the call of a generic function can pick the type `L`.
+/// Does the work of `first_unmarked`, for `count` places: calls `first_unmarked_counted` with a new count of ticks (operations that contracts count).
+/// The new count exists only in contracts, and is dropped afterwards. `blank` is a new ledger of the toolchain, to keep it in, and must be that of
+/// `L`. `L` has a name only in a generic function, such as this one: its caller writes `Brand` for it.
 fn first_unmarked_with_new_count<L: Ledger>(
     count: usize,
     marks: &[bool],

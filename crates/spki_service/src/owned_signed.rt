@@ -64,7 +64,7 @@ impl OwnedSigned {
 ///
 /// # Errors
 ///
-/// `AllocError` if memory ran out.
+/// `AllocError` if memory ran out, or a key has too many owners to count.
 pub(crate) fn owned_signed(alloc: Global, signed: &[Signed]) -> Result<Vec<OwnedSigned>, AllocError>
     ensures { IfOk result (λ owned. owned.items ≡ map signed_of signed.now) }
 {

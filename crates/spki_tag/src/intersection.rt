@@ -253,10 +253,10 @@ impl Tag {
         self.meet_with_new_count::<Brand>(alloc, other, most, Blank::new(1))
     }
 
-    /// Does what `meet_within` does: calls `meet_counted` with a new count of ticks (operations that contracts count). The count exists only
-    /// in contracts, and is dropped afterwards. `blank` is a new ledger of the toolchain, to keep the count in; it must be that of `L`. This is
-    /// a function of its own, since only the call of a generic function can pick the type `L` of a count. Err is `TooLarge` if the product of
-    /// the numbers of nodes of both tags is over `most`, or `Memory`.
+    /// Does what `meet_within` does: calls `meet_counted` with a new count of ticks (operations that contracts count). The count exists only in
+    /// contracts, and is dropped afterwards. `blank` is a new ledger of the toolchain, to keep the count in; it must be that of `L`. `L` has a name
+    /// only in a generic function, such as this one: its caller writes `Brand` for it. Err is `TooLarge` if the product of the numbers of nodes of
+    /// both tags is over `most`, or `Memory`.
     fn meet_with_new_count<L: Ledger>(
         &self,
         alloc: Global,

@@ -71,9 +71,11 @@ pub fn prefix_is_range()
 
 /// What the intersection of two tags is, by their forms. With `(*)` it is the other tag. With a set it is made of the intersections with
 /// each member. Of a string and a string, prefix or range that contains it, it is the string. Of two prefixes it is the longer, if that
-/// starts with the shorter. A prefix and a range are intersected as two ranges. Of two ranges it has the greater lower limit and the lesser
-/// upper limit, unless these exclude each other, or one range is of times and the other of dates. Of two lists with the same head it is made
-/// member by member. Otherwise it is `(* set)`. `specs/Meet.antt` says what each rule is.
+/// starts with the shorter. A prefix and a range are intersected as two ranges. Of two ranges it has their common ordering, the greater lower
+/// limit and the lesser upper limit, unless these exclude each other. Alpha allows every string, so it has the ordering of the other range in
+/// common with it; times and dates have no string in common. Of two lists with the same head it is made member by member, and has the further
+/// members of the longer one, unless the intersection at some place is `(* set)`. Otherwise it is `(* set)`. `specs/Meet.antt` says what each
+/// rule is.
 pub fn meet_rules()
     ensures star { StarRule }
     ensures sets { SetRule }

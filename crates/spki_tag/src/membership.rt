@@ -22,9 +22,9 @@ impl Tag {
         self.holds_with_new_count::<Brand>(request, Blank::new(1))
     }
 
-    /// Does what `holds` does: calls `holds_counted` with a new count of ticks (operations that contracts count). The count exists only in
-    /// contracts, and is dropped afterwards. `blank` is a new ledger of the toolchain, to keep the count in; it must be that of `L`. This is a
-    /// function of its own, since only the call of a generic function can pick the type `L` of a count.
+    /// Does what `holds` does: calls `holds_counted` with a new count of ticks (operations that contracts count). The count exists only in contracts,
+    /// and is dropped afterwards. `blank` is a new ledger of the toolchain, to keep the count in; it must be that of `L`. `L` has a name only in a
+    /// generic function, such as this one: its caller writes `Brand` for it.
     fn holds_with_new_count<L: Ledger>(&self, request: &Ground, blank: Blank) -> bool
         requires name { blank.name ≡ L.name }
         requires parts { blank.parts ≡ L.parts }

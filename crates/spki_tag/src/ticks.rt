@@ -9,8 +9,8 @@ use std::sync::ledger::{Blank, Book, Ledger, Share};
 /// only add. In a contract it is a number.
 ///
 /// A function whose name ends with `_counted` adds to the count of its caller. One whose name ends with `_with_new_count` makes a count for
-/// a caller that has none. It is a function of its own because the type `L`, by which one count is told from another, can only be picked
-/// where a generic function is called.
+/// a caller that has none. It is a function of its own because a count needs a type `L`, which tells it from other counts, and `L` has a name
+/// only in a generic function. The caller of that one writes `Brand` for `L`.
 #[derive(Drop)]
 pub struct Ticks<L: Ledger> {
     /// The total of a ledger: the toolchain's name for a sum that exists only in contracts.
