@@ -3,7 +3,7 @@ package main
 // Tests of chains: sequences of certificates that a client leaves with the daemon by a signed PUT, for its later requests. Here a folder has them
 // (folderChains), in a file for each. At a site (newSite) Alice may read below /web/, Bob below /web/docs/ by her certificate, and Carol below
 // /web/docs/a/ by his. Mallory has no right. Status 200 grants, 401 (where certificates may help) and 403 deny, 400 refuses an unclear request, and
-// 503 is a failure of the daemon.
+// 503 is a failure of the daemon. A PUT gets 201 if its sequence is kept now or was already kept, and 507 if there is no room for it.
 
 import (
 	"crypto/sha256"
@@ -50,8 +50,8 @@ func (s *site) statusFor(who person, target, sequence string) int {
 	return s.ask(pairs...).StatusCode
 }
 
-// putRequest returns a PUT request to files.example.org, with a person's signature, by which the person leaves certificates. `target` is its path, and
-// `sequence` its body.
+// putRequest returns a PUT request to files.example.org, with a person's signature, by which the person leaves certificates. `target` is its path,
+// with a query or without, and `sequence` is its body.
 func (p person) putRequest(t testing.TB, target, sequence string) *http.Request {
 	t.Helper()
 	request := httptest.NewRequest(http.MethodPut, target, strings.NewReader(sequence))
@@ -74,7 +74,7 @@ func (s *site) leaveAs(t testing.TB, who person, sequence string) (int, answer) 
 	return response.StatusCode, answer(response.Header.Get("X-Spki-Answer"))
 }
 
-// keepsFor says whether any sequence that a client has left is kept for a person's key.
+// keepsFor says whether a sequence that has not ended is kept for a person's key.
 func (s *site) keepsFor(t testing.TB, who person) bool {
 	t.Helper()
 	chains, err := s.chains.currentOf(hexDigest([]byte(who.key)), s.now())
@@ -160,7 +160,8 @@ func (p person) signedNameCertificate(name, subject string) string {
 }
 
 // TestWhichChainsAreKept leaves chains of each kind. Each certificate must be signed, and the subject of the last one must be the key that signs the
-// request: Bob's. A chain without a reason in its row is kept, and any other one is refused with that reason.
+// request: Bob's. A chain without a reason in its row is kept, and any other one is refused with a
+// reason that contains that text.
 func TestWhichChainsAreKept(t *testing.T) {
 	s := newSiteWithChains(t)
 	tag := prefixTag("read", "/web/")
@@ -233,8 +234,9 @@ func TestEndedIsNotKept(t *testing.T) {
 	}
 }
 
-// TestStrangersLeave leaves certificates of keys that a stranger has made. Once there is no room for another key, or for more octets, they are answered by
-// `full`, and no signature is verified. None of them grants anything, and a request that shows certificates is decided by these as before.
+// TestStrangersLeave has strangers leave certificates that Mallory gave them. Once there is no room for another key, they are answered by `full`, and no
+// signature is verified. None of them grants anything, and a request that shows certificates is decided by these as before. Without room for more octets
+// the answer is `full` too.
 func TestStrangersLeave(t *testing.T) {
 	s := newSiteWithChains(t)
 	s.config.Chains.Keys = 2
@@ -264,8 +266,8 @@ func TestStrangersLeave(t *testing.T) {
 	}
 }
 
-// newFolderChains returns the chainKeeper of a new, empty folder. It keeps each sequence for nine days: at most limits.Each of a key, and those of at
-// most limits.Keys keys.
+// newFolderChains returns the chainKeeper of a new, empty folder. A sequence that its chainOf returns ends after nine days. It keeps at most
+// limits.Each sequences of a key, and those of at most limits.Keys keys.
 func newFolderChains(t *testing.T, limits chains) *folderChains {
 	t.Helper()
 	limits.Folder, limits.Days = t.TempDir(), 9
@@ -276,7 +278,7 @@ func newFolderChains(t *testing.T, limits chains) *folderChains {
 	return kept
 }
 
-// mustAdd has a text kept for a key at a moment, and reports an error unless the answer is `wanted`.
+// mustAdd calls `add` with a text for a key at a moment, and reports an error if `add` fails or its answer is not `wanted`.
 func mustAdd(t *testing.T, kept *folderChains, key, text string, now time.Time, wanted answer) {
 	t.Helper()
 	if reply, err := kept.add(key, kept.chainOf(text, now), now); reply != wanted || err != nil {
@@ -285,7 +287,7 @@ func mustAdd(t *testing.T, kept *folderChains, key, text string, now time.Time, 
 }
 
 // keptTexts returns the texts of all files in the folder, sorted, with spaces between them. It reports an error unless memory has the same texts, the
-// count of octets is right, and no limit is exceeded.
+// count of octets is right, and neither Each nor Keys is exceeded.
 func keptTexts(t *testing.T, kept *folderChains) string {
 	t.Helper()
 	// (the path and the text of each file, by what is in memory, and by the folder)
@@ -465,8 +467,8 @@ func TestNoncesOfLeaving(t *testing.T) {
 	}
 }
 
-// putAttacks returns changes of a request by which Bob leaves certificates, after which it must be refused. `bobs` is what he leaves, and `other` another
-// sequence for him.
+// putAttacks returns, by a name for each, changes of a request by which Bob leaves certificates. A changed request must get a status of at least 400.
+// `bobs` is what he leaves, and `other` another sequence for him.
 func (s *site) putAttacks(bobs, other string) map[string]func(*http.Request) {
 	body := func(text string) func(*http.Request) {
 		return func(request *http.Request) {
@@ -513,7 +515,8 @@ func (s *site) putAttacks(bobs, other string) map[string]func(*http.Request) {
 	}
 }
 
-// TestPutAttacks changes a signed request that leaves certificates, in each of the ways of putAttacks: it is refused, and nothing is kept.
+// TestPutAttacks changes a signed request that leaves certificates, in each of the ways of putAttacks: its status is at least 400, and
+// nothing is kept.
 func TestPutAttacks(t *testing.T) {
 	s := newSiteWithChains(t)
 	bobs, _ := s.sequencesShown()
@@ -661,7 +664,7 @@ func TestFolderWithoutSync(t *testing.T) {
 }
 
 // TestForeignFiles reads a folder with files that no daemon has written as a whole: one of another name, half a file, one that may still be written, and
-// one that is too long. They are left out. A folder that others may write is an error.
+// one that is too long. They are left out. The third is removed when it is an hour old. A folder that others may write is an error.
 func TestForeignFiles(t *testing.T) {
 	s := newSiteWithChains(t)
 	bobs, _ := s.sequencesShown()
@@ -714,8 +717,8 @@ func TestChainSettings(t *testing.T) {
 	}
 }
 
-// TestDiskThatHangs leaves a sequence where the disk does not answer: its file is a FIFO that nobody reads. Meanwhile currentOf returns what is kept
-// for another key, without waiting.
+// TestDiskThatHangs adds a sequence where the disk does not answer: its file is a FIFO that nobody reads. Meanwhile currentOf, for another key, of which
+// no sequence is kept, returns without waiting.
 func TestDiskThatHangs(t *testing.T) {
 	kept := newFolderChains(t, chains{Each: 1, Keys: 9})
 	chain := kept.chainOf(sequence(), time.Now())
@@ -731,7 +734,7 @@ func TestDiskThatHangs(t *testing.T) {
 		answer, _ := kept.add("a", chain, time.Now())
 		added <- answer
 	}()
-	// (until `add` holds this lock, for which it need not wait: it then waits for a reader of the FIFO)
+	// (this loop ends when `add` holds the lock: from then on, `add` waits for a reader of the FIFO)
 	for kept.writing.TryLock() {
 		kept.writing.Unlock()
 		time.Sleep(time.Millisecond)
