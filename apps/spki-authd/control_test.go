@@ -1,7 +1,8 @@
 package main
 
 // Tests of the control socket, at which the running daemon takes an operator's orders such as -reload, and of what -health, -state and -metrics
-// print. By the list Alice may read below /web/. Status 0 says that a command is done, and 1 that it failed.
+// print. By the list Alice may read below /web/. Status 0 says that a command is done. Status 1 says that it failed, that -health has something to
+// report, or that -state finds a difference.
 
 import (
 	"bytes"

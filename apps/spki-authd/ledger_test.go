@@ -1,7 +1,8 @@
 package main
 
-// Tests of the ledger, the file with a line for each grant: no request is granted whose line is not in it. A line in it is whole or absent, also
-// where the disk is full. `syncs` says when it calls fsync: syncNever, syncSeconds (by `beat`, each second) or syncEach (for each write).
+// Tests of the ledger, the file with a line for each grant: no request is granted whose line is not in it. Where a full disk cuts a line, its part is
+// removed, or, if that fails, the next line begins behind a line feed. `syncs` says when it calls fsync: syncNever, syncSeconds (by `beat`, each
+// second) or syncEach (for each write).
 
 import (
 	"fmt"
@@ -168,7 +169,8 @@ func TestCutLedger(t *testing.T) {
 }
 
 // TestFailingSyncs writes two lines while fsync fails, and two when it works again. A row says whether the first, the second and the third write
-// succeed. With syncEach the first two fail. With syncSeconds a write fails after a `beat` has failed. The file has the lines whose write succeeded.
+// succeed. The fourth always does. With syncEach the first two fail. With syncSeconds a write fails after a `beat` has failed. The file has the lines
+// whose write succeeded.
 func TestFailingSyncs(t *testing.T) {
 	for syncs, row := range map[string]struct{ first, second, third bool }{
 		syncNever: {true, true, true}, syncSeconds: {true, false, false}, syncEach: {false, false, true},
@@ -256,8 +258,9 @@ func TestReopened(t *testing.T) {
 	write("six\n")
 }
 
-// TestLastSync reopens and closes a ledger after fsync has failed. That is an error unless the ledger has syncNever. With isOver fsync works again before
-// that: then syncSeconds must still report the `beat` that has failed, and syncEach has nothing to report. The new file is open in each case.
+// TestLastSync reopens and closes a ledger while fsync fails: that is an error unless the ledger has syncNever. With isOver fsync fails during a
+// `beat`, and works again before that: then syncSeconds must still report the `beat` that has failed. syncEach has nothing to report then, since its
+// `beat` calls no fsync. The new file is open in each case.
 func TestLastSync(t *testing.T) {
 	for _, syncs := range []string{syncNever, syncSeconds, syncEach} {
 		for _, isOver := range []bool{false, true} {
@@ -271,7 +274,7 @@ func TestLastSync(t *testing.T) {
 					t.Errorf("%s, %v: %s: %v", syncs, isOver, step, err)
 				}
 			}
-			// (writes a line. Then fsync fails during a `beat`, and unless isOver also after it)
+			// (writes a line. Then fsync, if it is called, fails during a `beat`, and unless isOver also after it)
 			writeUnsynced := func(line string) {
 				if err := ledger.write([]byte(line)); err != nil {
 					t.Error(err)

@@ -1,7 +1,7 @@
 package main
 
 // Tests of a daemon that runs in this process and answers a web server's requests at a Unix socket, and of the program's command lines. By the list
-// Alice may read below /web/. A request for anything else gets 401, and one with an unclear path 400.
+// Alice may read below /web/. A request to read anything else gets 401, and one with an unclear path 400.
 
 import (
 	"bufio"
@@ -65,7 +65,7 @@ func serveHere(t *testing.T, fields string) *servedSite {
 	return here
 }
 
-// TestEndsWithoutDisk ends a daemon whose disk does not take the last grants: the error and the message say so.
+// TestEndsWithoutDisk ends a daemon while fsync fails for its log of grants: `end` fails, and an event says that grants may not be on the disk.
 func TestEndsWithoutDisk(t *testing.T) {
 	daemon := &daemon{decider: newSite(t, "").decider, begun: time.Now()}
 	folder := t.TempDir()
@@ -82,7 +82,7 @@ func TestEndsWithoutDisk(t *testing.T) {
 	daemon.granted.callBetweenWrites(func() {
 		daemon.ledger.file = &failingFile{File: daemon.ledger.file.(*os.File), room: -1, syncFails: true}
 	})
-	// (the listener is closed by `end`, which waits until this has noticed it)
+	// (`end` closes the listener, and waits until `serve` has noticed that)
 	connections := newConnectionServer(daemon.decider)
 	go connections.serve(listener)
 	err = daemon.end(listener, connections)
@@ -152,8 +152,8 @@ func TestReloadsUnderLoad(t *testing.T) {
 	all.Wait()
 }
 
-// TestConnectionsAreBounded opens six connections, where two may be, by clients that never send the rest of a request. Each is closed after a second,
-// the time of a request, and then another client is answered.
+// TestConnectionsAreBounded opens six connections, where two may be, by clients that never send the rest of a request. The daemon has two of them at
+// a time, and closes each after a second, the time of a request. Then another client is answered. None of the six gets 200.
 func TestConnectionsAreBounded(t *testing.T) {
 	s := serveHere(t, `, "limits": {"connections": 2, "seconds": 1}`)
 	var waiting []net.Conn
@@ -211,7 +211,7 @@ func TestUnusualRequests(t *testing.T) {
 	}
 }
 
-// exchange sends the daemon a text on a new connection, and returns all that it answers until it closes that.
+// exchange sends the daemon a text on a new connection, and returns all that it answers until it closes the connection.
 func (s *servedSite) exchange(t *testing.T, text string) []byte {
 	t.Helper()
 	connection, err := net.Dial("unix", s.socket)
@@ -232,8 +232,8 @@ func (s *servedSite) request(method, target, more string) string {
 		more + "\r\n"
 }
 
-// TestRequestsInOneConnection sends five requests one behind the other. Each is answered in its turn, without a body, but the last one, which is behind one
-// with `Connection: close`.
+// TestRequestsInOneConnection sends five requests one behind the other. The first four are answered in this order, without a body. The last one is
+// not answered, since the one before it has `Connection: close`.
 func TestRequestsInOneConnection(t *testing.T) {
 	s := serveHere(t, "")
 	octets := s.exchange(t, s.request("GET", "/web/x", "")+s.request("HEAD", "/web/../x", "")+s.request("GET", "/x", "")+
@@ -252,7 +252,7 @@ func TestRequestsInOneConnection(t *testing.T) {
 }
 
 // TestWaitingConnections asks where one connection is open, and only one is allowed. One that is idle makes room. Beside one on which a request is
-// under way the answer comes when that one is closed, and until then no line.
+// under way the answer comes when that one is closed, and until then no line is logged.
 func TestWaitingConnections(t *testing.T) {
 	s := serveHere(t, `, "limits": {"connections": 1, "seconds": 60}`)
 	first, err := net.Dial("unix", s.socket)
@@ -363,8 +363,8 @@ func (d *recordedDeadline) SetDeadline(until time.Time) error { d.until = until;
 // SetReadDeadline keeps a deadline for reads.
 func (d *recordedDeadline) SetReadDeadline(until time.Time) error { d.until = until; return nil }
 
-// TestRequestOnEndedConnection has an idle connection ended, to make room for a new one or since it was idle for long, while a request comes on it: that
-// request has its whole time.
+// TestRequestOnEndedConnection has an idle connection ended, to make room for a new one or since it was idle for long, while a request comes on it:
+// that request has a deadline of its own.
 func TestRequestOnEndedConnection(t *testing.T) {
 	for name, ends := range map[string]func(server *connectionServer){
 		"for a new one": (*connectionServer).closeIdle, "after long": func(server *connectionServer) { server.endLate(time.Now().Add(timeIdle + time.Second)) },
@@ -392,7 +392,8 @@ func (s *servedSite) lines() int {
 	return strings.Count(s.log.String(), "\n")
 }
 
-// TestSockets opens sockets where a daemon listens and where a file is, which fails, and where an ended daemon has left one, which is replaced.
+// TestSockets opens sockets where a daemon listens and where a file is, which fails, and where an ended daemon has left one, which is replaced. The
+// socket of a daemon has the mode of socket_mode.
 func TestSockets(t *testing.T) {
 	s := serveHere(t, "")
 	if about, err := os.Stat(s.socket); err != nil || about.Mode().Perm() != 0o600 {
@@ -454,8 +455,8 @@ func TestBusySocket(t *testing.T) {
 	}
 }
 
-// TestManagerThatIsGone starts a daemon whose service manager is not there: it starts all the same. Then it fills the queue of a manager that reads
-// nothing, by messages, until notify fails since it has waited for too long.
+// TestManagerThatIsGone starts a daemon whose service manager is not there: it starts all the same. Then the test fills the queue of a manager that
+// reads nothing, by messages, until notify fails since it has waited for too long.
 func TestManagerThatIsGone(t *testing.T) {
 	path := filepath.Join(t.TempDir(), "manager")
 	t.Setenv(envNotify, path)

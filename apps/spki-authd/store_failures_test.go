@@ -3,7 +3,8 @@
 package main
 
 // A test of a store in PostgreSQL while its servers, its network and its clock fail: tests/suite/test_store_failures.py has them fail, and ends the
-// test. A beat is a mark with the time that a store gets again and again, by which the daemon knows how old the store's state is.
+// test. Another test, of transact, needs no store. A beat is a mark with the time that a store gets again and again, by which the daemon knows how
+// old the store's state is.
 
 import (
 	"database/sql/driver"
@@ -33,8 +34,8 @@ const (
 	betweenChanges  = 5 * time.Millisecond
 )
 
-// A version is the entries of a list by their numbers, and when they may have been in force: from the begin of the change that made it to the end of the
-// next change. `until` is zero until that change has ended.
+// A version is the entries of a list by their numbers, and when they may have been in force: from the begin of the change that made it to the end of
+// the next change that is certain. `until` is zero until that change has ended.
 type version struct {
 	entries     map[int]string
 	from, until time.Time
@@ -215,9 +216,10 @@ func (l *timeline) changeUntilEnd() {
 }
 
 // TestQuestionsUnderFailures asks a store while its entries change and tests/suite/test_store_failures.py has something fail. Each answer must be a
-// failure, or that of the guard of the whole list as of a moment at most `failingStale` seconds before the question. It ends when as many questions are
-// answered as the environment says, and the file of envEnd is there. `counts` counts failures, and other answers by their first two letters: yes, no,
-// refused. At least a twentieth of `wanted` must be yes, as many no, and one a failure. The test ends as failed if only failures come for five minutes.
+// failure, or that of the guard of the whole list as of a moment at most `failingStale` seconds before the question, or since. It ends when as many
+// questions are answered as the environment says, and the file of envEnd is there. `counts` counts failures, and other answers by their first two
+// letters: yes, no, refused. At least a twentieth of `wanted` must be yes, and as many no. At least one failure must come too. The test ends as
+// failed if only failures come for five minutes.
 func TestQuestionsUnderFailures(t *testing.T) {
 	l := newTimeline(t)
 	random := rand.New(rand.NewSource(l.random.Int63()))

@@ -3,7 +3,7 @@
 package main
 
 // A measurement of daemons that decide by a store in PostgreSQL and are asked over HTTP. bench/store.py starts them and this test, and reads its
-// line. `hot` people ask again and again, so that the daemons keep their rows, and `cold` people once.
+// line. `hot` people ask again and again, so that the daemons keep their rows, and `cold` people once at each daemon.
 
 import (
 	"bufio"
@@ -191,7 +191,8 @@ func (a *visitor) askFor(number int) {
 	}
 }
 
-// runAt runs a statement on a connection of its own, which it closes. `values` are those of the statement's $1 and so on.
+// runAt runs a statement on a connection of a pool. It closes that, and gives no slot back: the pool has one less then. `values` are those of the
+// statement's $1 and so on. It fails as pool.take and link.ask do.
 func runAt(writer *pool, text string, values ...driver.Value) error {
 	link, err := writer.take()
 	if err != nil {

@@ -20,7 +20,7 @@ type table struct {
 	// The entries, and the SHA-256 digests of their keys, by the numbers of the entries.
 	texts      map[int]string
 	keyDigests map[int]string
-	// All changes, first that with the number 1, and what `allEnded` returns as ended.
+	// All changes, first that with the number 1, and what `allEnded` returns as ended, which no test sets: so it returns none.
 	changes []change
 	ended   []digest
 	state   storeState
@@ -28,14 +28,15 @@ type table struct {
 	fault error
 	// What happens after rows were read and before they are returned.
 	meanwhile func()
-	// How often rows or sequences were read.
+	// How often `rows` or `chains` was called.
 	reads int
 	// The sequences by the digests of their keys, and what `keep` answers, or empty for `kept`.
 	kept       map[digest][]keptChain
 	keepAnswer answer
 }
 
-// A change is the digest of the key whose entry has changed, or an ended certificate, with the time of the change.
+// A change has the digest of the key whose entry has changed, or, if `ended` is not nil, that of an ended certificate. `token` is the time of the
+// change.
 type change struct {
 	keyDigest string
 	ended     *digest
@@ -102,7 +103,7 @@ func (t *table) allEnded() (pollResult, error) {
 	return pollResult{storeState: t.state, ended: t.ended}, t.fault
 }
 
-// chains returns the sequences that are kept for a key.
+// chains returns the sequences that are kept for the key with a digest, also those that have ended.
 func (t *table) chains(key digest) ([]keptChain, error) {
 	t.reads++
 	return t.kept[key], t.fault

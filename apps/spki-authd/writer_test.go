@@ -112,7 +112,7 @@ func TestTimeOfLines(t *testing.T) {
 	for writer.taken() == 0 {
 		time.Sleep(time.Millisecond)
 	}
-	// (these begin over half of the patience: so each waits behind the first line, and is late at another time)
+	// (these begin one after the other during half of the patience: so each waits behind the first line, and is late at another time)
 	for line := 0; line < lateLines; line++ {
 		all.Add(1)
 		go writeLate("given up\n")
@@ -219,7 +219,7 @@ func TestCutLines(t *testing.T) {
 	}
 }
 
-// TestReaderThatIsGone writes a line to a pipe that is read, and one after its reader is gone: that line counts as failed, and the daemon goes on.
+// TestReaderThatIsGone writes a line to a pipe that is read, and one after its reader is gone: that line counts as failed, and the process goes on.
 func TestReaderThatIsGone(t *testing.T) {
 	reader, pipe, err := os.Pipe()
 	if err != nil {
