@@ -43,7 +43,8 @@ func TestCacheKeepsValidSignatures(t *testing.T) {
 	}
 }
 
-// TestCacheTellsPartsApart asks for signatures whose parts, one behind the other, are the octets of one that is kept. None of them is known.
+// TestCacheTellsPartsApart asks for signatures whose parts, one behind the other, are the octets of one that is kept, and for one that has its key
+// and its message exchanged. None of them is known.
 func TestCacheTellsPartsApart(t *testing.T) {
 	cache, valid := newCache(10), func(guard.Signature) bool { return true }
 	verifies(cache, guard.Signature{Key: []byte("ab"), Message: []byte("c"), Value: []byte("d")}, valid)
@@ -76,7 +77,8 @@ func TestCacheIsBounded(t *testing.T) {
 	}
 }
 
-// TestCacheInGoroutines asks one cache at the same time for more signatures than it keeps. Only those whose number has two digits are valid.
+// TestCacheInGoroutines asks one cache by eight goroutines at the same time for more signatures than it keeps. Only those whose number has two digits
+// are valid.
 func TestCacheInGoroutines(t *testing.T) {
 	cache, hasTwoDigits := newCache(50), func(signature guard.Signature) bool { return len(signature.Message) == 2 }
 	var all sync.WaitGroup

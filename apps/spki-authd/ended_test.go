@@ -1,7 +1,7 @@
 package main
 
-// Tests of the file of ended certificates, which an operator has ended before their time. Each line has the SHA-256 digest of one, a comment, or
-// nothing. The last line, which withLastLine adds, is `end COUNT DIGEST`: the number of digests, and the digest of the lines before it.
+// Tests of the file of ended certificates, which an operator has ended before their time. Each line has the SHA-256 digest of one, a comment, both,
+// or nothing. The last line, which withLastLine adds, is `end COUNT DIGEST`: the number of digests, and the digest of the lines before it.
 
 import (
 	"os"

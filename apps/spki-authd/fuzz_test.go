@@ -16,7 +16,7 @@ import (
 	"conguraki/spki/guard"
 )
 
-// FuzzHeaders asks with headers that no web server sends. Each status must be one that the daemon uses, and 200 only for what checkGrant allows.
+// FuzzHeaders asks with any texts in the headers. Each status must be 200, 400, 401 or 403, and 200 only for what checkGrant allows.
 func FuzzHeaders(f *testing.F) {
 	s := newSite(f, "")
 	bobs, carols := s.sequencesShown()
@@ -72,8 +72,8 @@ func FuzzSequence(f *testing.F) {
 	})
 }
 
-// FuzzLeft leaves octets with the daemon as certificates, for later requests by Bob's key. What is kept has this key in it, or its hash, and no more
-// is granted by it than checkGrant allows.
+// FuzzLeft leaves octets with the daemon as certificates, for later requests by Bob's key: they are kept (201), or refused (400). What is kept has
+// this key in it, or its hash by SHA-256, and no more is granted by it than checkGrant allows.
 func FuzzLeft(f *testing.F) {
 	s := newSite(f, `, "chains": {"folder": "`+f.TempDir()+`"}`+withSignatures)
 	// (`hashed` names Bob by the hash of his key, and has a comment with a display hint)

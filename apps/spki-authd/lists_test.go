@@ -83,7 +83,8 @@ func TestListsOfHosts(t *testing.T) {
 	}
 }
 
-// TestRulesOfHosts has a rule for one host, beside a list for all. For another host no rule fits, which is denied, and a request without one is refused.
+// TestRulesOfHosts has a rule for one host, beside a list for all. For another host no rule fits, which is denied, and a request without a host is
+// refused.
 func TestRulesOfHosts(t *testing.T) {
 	s := newSite(t, "")
 	s.config.Requests[0].Host = "a.example"
@@ -110,7 +111,7 @@ func TestHostsThatNothingDependsOn(t *testing.T) {
 	}
 }
 
-// TestWrongLists reads configurations in which the scope of a list is wrong, each of which is refused, and a right one.
+// TestWrongLists reads configurations in which `lists` is wrong, or is there beside `list`, each of which is refused, and a right one.
 func TestWrongLists(t *testing.T) {
 	lists := func(text string) string {
 		return strings.Replace(leastConfig, `"list": "/acl"`, `"lists": [`+text+`]`, 1)

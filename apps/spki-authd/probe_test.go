@@ -78,8 +78,9 @@ func hasSuffix(suffix string) func(*http.Request) bool {
 	return func(request *http.Request) bool { return strings.HasSuffix(request.URL.Path, suffix) }
 }
 
-// TestProbe probes sites with a hole, each of which is found, and sites that deny all. A row has the hole and the status that it answers, the exit
-// status, more words of the command line, and a part of what must be printed.
+// TestProbe probes sites that deny all, and sites where the requests of isHole get another status, `answer`. By 405 and 501 they are denied too.
+// Nothing is shown by 429 again and again, by 5xx to all without -stopped, or by denials alone with -stopped. Any other answer but 5xx is a hole,
+// which is found. A row has the exit status, more words of the command line, and a part of what must be printed.
 func TestProbe(t *testing.T) {
 	for name, each := range map[string]struct {
 		isHole         func(*http.Request) bool
@@ -125,7 +126,7 @@ func TestProbe(t *testing.T) {
 	}
 }
 
-// TestProbePaths compares the paths that are asked for: none is asked for twice, and each is drawn at random. So is the second path of COPY and MOVE.
+// TestProbePaths checks the paths that are asked for: none is asked for twice, and each is drawn at random. So is the second path of COPY and MOVE.
 func TestProbePaths(t *testing.T) {
 	seconds := map[string]bool{}
 	_, _, paths := probeHandler(t, func(answer http.ResponseWriter, request *http.Request) {

@@ -32,7 +32,8 @@ func (s *site) mustAnswer(t *testing.T, name string, who person, target, shown s
 	return s.lastLine(t)
 }
 
-// TestKeptSequencesGrantNothingByThemselves shows Carol's kept sequence for other paths, keys and methods: each question is decided anew.
+// TestKeptSequencesGrantNothingByThemselves shows Carol's sequence, which is kept from its first grant on, for several paths, keys and methods, in
+// any order: each question is decided anew.
 func TestKeptSequencesGrantNothingByThemselves(t *testing.T) {
 	s := newSite(t, "")
 	_, carols := s.sequencesShown()
@@ -178,7 +179,8 @@ func TestKeptSequencesAreExplained(t *testing.T) {
 	}
 }
 
-// TestSignaturesThatAreNotRead closes a question before its signatures are read: that is an error, and not a sequence without signatures.
+// TestSignaturesThatAreNotRead reads the one signature of a question, and reads it again after the question is closed: that is an error, and not a
+// sequence without signatures.
 func TestSignaturesThatAreNotRead(t *testing.T) {
 	s := newSite(t, "")
 	bobs, _ := s.sequencesShown()

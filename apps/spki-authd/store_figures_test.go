@@ -3,7 +3,7 @@
 package main
 
 // Measurements of decisions by a store in PostgreSQL. bench/store.py fills the store, runs these, and reads their figures: each is a line on standard
-// output.
+// output. BenchmarkStored alone needs no PostgreSQL.
 
 import (
 	"errors"
@@ -83,8 +83,8 @@ func key(number int) []byte {
 	return []byte(fmt.Sprintf("(10:public-key(4:test40:k%039d))", number))
 }
 
-// timeOf decides for the key with a number, and returns the time that this took. If the key is denied, the test fails, and goes on: other goroutines
-// than that of the test call this too.
+// timeOf decides for the key with a number, and returns the time that this took. If the key is denied, or the decision fails, the test fails, and
+// goes on: other goroutines than that of the test call this too.
 func (f *figures) timeOf(number int) time.Duration {
 	question := guard.Question{Sequence: noCertificates, Key: spki.AssumeKey(key(number)), Words: []string{"files", "read", "/web/x"}, Time: time.Now()}
 	begun := time.Now()
@@ -134,8 +134,8 @@ func (f *figures) measureCold() {
 	f.measure("cold", 300, func() int { return random.Intn(f.keys) })
 }
 
-// measureSingle measures keys whose lists are not kept by the daemon (`miss`), and one whose list is (`hit`), one question at a time. Before that each key
-// is asked for twice, so that the database has its rows in memory.
+// measureSingle measures keys whose lists are not kept by the daemon (`miss`), and one whose list is (`hit`), one question at a time. These are at
+// most 10,000 keys. Before that each of them is asked for twice, so that the database has its rows in memory.
 func (f *figures) measureSingle() {
 	random := rand.New(rand.NewSource(2))
 	keys := min(f.keys, 10_000)
@@ -196,8 +196,8 @@ func (f *figures) measureLoad() {
 	printFigure("load", times)
 }
 
-// BenchmarkStored measures one decision: Carol shows two certificates, whose signatures the first turn verifies. The entries are in a store, and kept from
-// that turn on. No line is logged.
+// BenchmarkStored measures one decision: Carol shows two certificates, whose signatures the first turn verifies. The entries are in a store, which a
+// table in memory stands for, and kept from that turn on. No line is logged.
 func BenchmarkStored(b *testing.B) {
 	s := newStored(b)
 	s.logGrant = func([]byte) error { return nil }

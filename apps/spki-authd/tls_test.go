@@ -70,7 +70,8 @@ func askByTLS(config *config, who person) (int, error) {
 	return response.StatusCode, nil
 }
 
-// TestTLS starts a daemon at a port. A web server that verifies its certificate asks it, and not another one in its place.
+// TestTLS starts a daemon at a port. A web server that expects its certificate is answered, and one that expects another certificate gets an error.
+// What is asked without TLS is not granted.
 func TestTLS(t *testing.T) {
 	alice, mallory := newPerson(t), newPerson(t)
 	path := writeFile(t, "config", tlsConfig(t, alice))
@@ -106,7 +107,7 @@ func TestTLS(t *testing.T) {
 }
 
 // TestCertificatesAreReadAgain reloads a configuration with another certificate, which is shown from then on. A reload that is refused, for a wrong
-// key or list, leaves the certificate as it was.
+// key or list, leaves the certificate as it was. A key that everyone may read is refused.
 func TestCertificatesAreReadAgain(t *testing.T) {
 	alice, mallory := newPerson(t), newPerson(t)
 	config, err := parseConfig([]byte(tlsConfig(t, alice)))
@@ -146,7 +147,8 @@ func TestListenSettings(t *testing.T) {
 	files := `"tls": {"certificate": "/c", "key": "/k"}`
 	secret := `"secret_file": "/s"`
 	control := `"control": "unix:/run/x/control"`
-	// (one octet too long, and as long as may be but for the path of the control socket, which has controlSuffix behind it)
+	// (a path of one octet too many, and one that is short enough, while that of its control socket, with controlSuffix behind it, has one octet too
+	// many)
 	long, longControl := "unix:/"+strings.Repeat("x", mostSocketPath), "unix:/"+strings.Repeat("x", mostSocketPath-len(controlSuffix))
 	listen := func(address string, fields ...string) string {
 		return strings.Replace(leastWith(strings.Join(fields, ", ")), "unix:/run/x/s", address, 1)
