@@ -167,7 +167,7 @@ func TestReopenedByOrder(t *testing.T) {
 		if how == "signal" {
 			// (the channel alone says what the signal asks for, so any signal will do)
 			s.daemon.signals.reopen <- os.Interrupt
-			// (the main loop does this after what the signal asks for: when it is answered, both are done)
+			// (the main loop, which is idle, has taken the signal before this order comes: when the order is answered, both are done)
 			s.runProgram(t, "-reload")
 		} else if status, _, messages := s.runProgram(t, how); status != 0 {
 			t.Error(messages)

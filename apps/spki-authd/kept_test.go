@@ -266,8 +266,8 @@ func TestStrangersLeave(t *testing.T) {
 	}
 }
 
-// newFolderChains returns the chainKeeper of a new, empty folder. A sequence that its chainOf returns ends after nine days. It keeps at most
-// limits.Each sequences of a key, and those of at most limits.Keys keys.
+// newFolderChains returns the chainKeeper of a new, empty folder. A sequence that its chainOf returns ends after nine days at the latest. It keeps at
+// most limits.Each sequences of a key, and those of at most limits.Keys keys.
 func newFolderChains(t *testing.T, limits chains) *folderChains {
 	t.Helper()
 	limits.Folder, limits.Days = t.TempDir(), 9
@@ -451,8 +451,8 @@ func TestEndedKeyGivesWay(t *testing.T) {
 	}
 }
 
-// TestNoncesOfLeaving has room for one nonce of those who leave certificates, and for one of requests that are granted. The first stranger who leaves some
-// takes the one, so the second is refused. The other stays free for Alice.
+// TestNoncesOfLeaving has room for one nonce of those who leave certificates, and for one of requests that are granted. The first stranger who leaves
+// some fills the room of the first kind, so the second stranger is refused. The other room stays free for Alice's request.
 func TestNoncesOfLeaving(t *testing.T) {
 	s := newSite(t, `, "chains": {"folder": "`+t.TempDir()+`"}, "signatures": {"names": ["files.example.org"], "nonces": 1}`)
 	s.reopenChains(t)

@@ -95,7 +95,7 @@ func (l *link) forget(number int) error {
 	return prepared.Close()
 }
 
-// runStatement runs a statement, in which %s is the schema, and returns the first value of its row, or 0 after an error.
+// runStatement runs a statement, in which %s is the schema, and returns the first value of its row. It reports an error: then the result has no meaning.
 func (r *changingStore) runStatement(text string, values ...driver.Value) (first int64) {
 	link, err := r.writer.take()
 	if err != nil {
