@@ -160,8 +160,8 @@ func (p person) signedNameCertificate(name, subject string) string {
 }
 
 // TestWhichChainsAreKept leaves chains of each kind. Each certificate must be signed, and the subject of the last one must be the key that signs the
-// request: Bob's. A chain without a reason in its row is kept, and any other one is refused with a
-// reason that contains that text.
+// request: Bob's. A chain without a reason in its row is kept, and any other one is refused with a reason that
+// contains that text.
 func TestWhichChainsAreKept(t *testing.T) {
 	s := newSiteWithChains(t)
 	tag := prefixTag("read", "/web/")
@@ -515,8 +515,8 @@ func (s *site) putAttacks(bobs, other string) map[string]func(*http.Request) {
 	}
 }
 
-// TestPutAttacks changes a signed request that leaves certificates, in each of the ways of putAttacks: its status is at least 400, and
-// nothing is kept.
+// TestPutAttacks changes a signed request that leaves certificates, in each of the ways of putAttacks: its status is at least 400, and nothing is
+// kept.
 func TestPutAttacks(t *testing.T) {
 	s := newSiteWithChains(t)
 	bobs, _ := s.sequencesShown()

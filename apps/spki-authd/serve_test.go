@@ -152,8 +152,8 @@ func TestReloadsUnderLoad(t *testing.T) {
 	all.Wait()
 }
 
-// TestConnectionsAreBounded opens six connections, where two may be, by clients that never send the rest of a request. The daemon has two of them at
-// a time, and closes each after a second, the time of a request. Then another client is answered. None of the six gets 200.
+// TestConnectionsAreBounded opens six connections, where two may be, by clients that never send the rest of a request. The daemon reads two of them
+// at a time, and closes each after a second, the time of a request. Then another client is answered. None of the six gets 200.
 func TestConnectionsAreBounded(t *testing.T) {
 	s := serveHere(t, `, "limits": {"connections": 2, "seconds": 1}`)
 	var waiting []net.Conn
