@@ -34,8 +34,8 @@ type connectionServer struct {
 	isEmpty chan struct{}
 }
 
-// A connectionState is what an open connection does, until when that may last, and whether the connection ever got a deadline: from then on each change
-// of the stage must set a new one.
+// A connectionState is what an open connection does, until when that may last, and whether endIdle or endLate gave the connection a deadline: from then on
+// each change of the stage must set a new one.
 type connectionState struct {
 	connection  net.Conn
 	mutex       sync.Mutex

@@ -1,6 +1,7 @@
 package main
 
-// Requests that a client has signed, by which it proves its key in place of TLS. A signature has a nonce, which is good for one granted request.
+// Requests that a client has signed, by which it proves its key in place of TLS. A signature has a nonce, which is good for one granted request, or for one
+// that leaves certificates.
 
 import (
 	"errors"

@@ -2,8 +2,8 @@
 
 package main
 
-// The statements by which a store in PostgreSQL is read. A row of their results begins with the state of the store: its version, its last change and
-// its last beat.
+// The statements by which a store in PostgreSQL is read, and by which a sequence of certificates is kept in it. A row of askRows, askChangesSince and
+// askAllEnded begins with the state of the store: its version, the number of its last change, and the number and the time of its last beat.
 
 import (
 	"context"
