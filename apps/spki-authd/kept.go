@@ -47,7 +47,7 @@ type chainKeeper interface {
 	// whyNotAdded returns the answer to a sequence that add would not keep, or an empty one if add may keep it. It is asked before a signature is verified.
 	whyNotAdded(key string, chain keptChain, now time.Time) (answer, error)
 	// add keeps a sequence for a key, if there is room, and returns the answer to the client: `kept`, `known` or `full`, or `failed` with an error. No
-	// other sequence is replaced.
+	// other sequence is replaced that has not ended.
 	add(key string, chain keptChain, now time.Time) (answer, error)
 }
 

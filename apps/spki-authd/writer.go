@@ -86,8 +86,8 @@ func newWriter(to sink, patience time.Duration, eachSecond func()) *writer {
 	return started
 }
 
-// write writes a line, which ends with a line feed, and returns when it is written. If it fails with errHangs, the line may still be written later, and with
-// another error it is not. The caller may use the line's octets again in each case.
+// write writes a line, which ends with a line feed, and returns when it is written. If it fails with errHangs, the line may still be written later. After
+// another error, which is that of the sink, it does not count as written. The caller may use the line's octets again in each case.
 func (w *writer) write(line []byte) error {
 	const isKept = false
 	w.mutex.Lock()
