@@ -22,7 +22,7 @@ type access struct {
 	read   time.Time
 }
 
-// An accessKeeper has the access that is in force, and the outcome of the last reload. Both are nil until the first one.
+// An accessKeeper has the access that is in force, which is nil until a reload succeeds, and the outcome of the last reload, or nil before the first one.
 type accessKeeper struct {
 	present atomic.Pointer[access]
 	last    atomic.Pointer[reloadOutcome]
@@ -156,8 +156,8 @@ func (k *accessKeeper) reload(c *config, allowFewerEnded bool, now time.Time) er
 	return err
 }
 
-// replace reads the files of a configuration, also those for TLS, and puts them in the place of those that were read before. It fails if a file is
-// refused, if a store cannot be opened, or if an ended certificate is no longer listed and allowFewerEnded is false: then nothing is replaced.
+// replace reads the files of a configuration, also those for TLS, and puts them in the place of those that were read before. It fails if a file cannot be
+// read or is refused, if a store cannot be opened, or if an ended certificate is no longer listed and allowFewerEnded is false: then nothing is replaced.
 func (k *accessKeeper) replace(c *config, allowFewerEnded bool, now time.Time) error {
 	certificate, err := c.TLS.read()
 	if err != nil {

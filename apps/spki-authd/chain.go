@@ -75,7 +75,7 @@ func (c *config) namesKey(principal []byte, key guard.ProvenKey, now time.Time) 
 	return decision.Granted(), err
 }
 
-// anyWords are a request that only a right to everything contains.
+// anyWords are the request of questions for which it does not matter: to a list without entries, or with one that gives everything.
 var anyWords = []string{"any", "request"}
 
 // subjectOf returns the subject of a certificate, both in canonical form, or nil if it has none. It looks at one field after the other, so the library must

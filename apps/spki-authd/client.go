@@ -124,7 +124,7 @@ func fromBase64DER(text string) (first []byte, err error) {
 }
 
 // fromXFCC reads the field Cert of `X-Forwarded-Client-Cert`, as Envoy writes it: one element, with fields NAME=VALUE between semicolons, and
-// the certificate as escaped PEM in quotes. It fails unless exactly one field is Cert, in upper or lower case.
+// the certificate as escaped PEM in quotes. It fails for a text of another form, and unless exactly one field is Cert, in upper or lower case.
 func fromXFCC(text string) ([]byte, error) {
 	var certificates []string
 	for text != "" {

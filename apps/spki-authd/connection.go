@@ -34,8 +34,8 @@ type connectionServer struct {
 	isEmpty chan struct{}
 }
 
-// A connectionState is what an open connection does, until when that may last, and whether the connection ever got a deadline: from then on each change
-// of the stage must set a new one.
+// A connectionState is what an open connection does, until when that may last, and whether endIdle or endLate gave the connection a deadline: from then on
+// each change of the stage must set a new one.
 type connectionState struct {
 	connection  net.Conn
 	mutex       sync.Mutex
@@ -101,7 +101,7 @@ func (s *connectionServer) serve(listener net.Listener) {
 }
 
 // takePlace puts an element into `places`, and waits for room there if need be. A web server keeps idle connections open for later requests, so takePlace
-// closes one of those: the web server opens another one when it needs it.
+// closes one of those, and again each timeToRetry until there is room: the web server opens another one when it needs it.
 func (s *connectionServer) takePlace() {
 	for {
 		select {

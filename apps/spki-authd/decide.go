@@ -153,7 +153,7 @@ func (d *decider) decideKnown(result *record, question guard.Question, path stri
 // withList calls `use` with the access and the list that are in force for a host and a path, and returns both and the error of `use`. Of a list in a store
 // it takes only the entries that the question needs, and closes the list of them afterwards if the store does not keep it (isPassing). If the list is closed
 // at that moment, as by a reload, `use` is called again, with the new list. It fails with errNoList if no list is for the host and the path, with errBusy if
-// too many questions are decided at once, and if a store cannot be read.
+// too many questions are decided at once, and as store.list does.
 func (d *decider) withList(question *guard.Question, host, path string, use func(present *access, list *list) error) (*access, *list, error) {
 	for {
 		present, list, err := d.keeper.listFor(host, path)

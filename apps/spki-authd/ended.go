@@ -27,8 +27,8 @@ var noneEnded = &endedCertificates{digest: hexDigest(nil)}
 var errLastLine = errors.New("its last line is not `end COUNT SHA256` for the lines before it: `spki-cert end --ended FILE` writes it")
 
 // parseEnded reads the text of a file of ended certificates. Each line is empty, begins with `#`, or is a digest of 64 hexadecimal digits in small letters,
-// behind which ` # ` and a comment may be. The last line has the number of digests and the digest of all octets before it: a file that was cut, or that
-// somebody has added a line to, is refused.
+// behind which ` # ` and a comment may be. The last line has the number of lines with a digest, and the digest of all octets before it: a file that was
+// cut, or that somebody has added a line to, is refused.
 func parseEnded(text []byte) (*endedCertificates, error) {
 	body, last, isWhole := cutLastLine(text)
 	if !isWhole {

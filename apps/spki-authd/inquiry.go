@@ -104,8 +104,8 @@ func (c *config) hostOf(request *http.Request) (string, error) {
 	return host, err
 }
 
-// addressOf returns the client's address, or an empty text if the web server does not say it. Where addresses have a rate, a missing one is an error,
-// errHeader.
+// addressOf returns the client's address, or an empty text if the web server does not say it. It fails as headerValue does. Where addresses have a rate,
+// a missing one is errHeader too.
 func (c *config) addressOf(request *http.Request) (string, error) {
 	if c.Limits.AddressRate > 0 {
 		return requiredHeader(request, c.Headers.Address)

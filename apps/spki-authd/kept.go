@@ -47,7 +47,7 @@ type chainKeeper interface {
 	// whyNotAdded returns the answer to a sequence that add would not keep, or an empty one if add may keep it. It is asked before a signature is verified.
 	whyNotAdded(key string, chain keptChain, now time.Time) (answer, error)
 	// add keeps a sequence for a key, if there is room, and returns the answer to the client: `kept`, `known` or `full`, or `failed` with an error. No
-	// other sequence is replaced.
+	// other sequence is replaced that has not ended.
 	add(key string, chain keptChain, now time.Time) (answer, error)
 }
 
@@ -60,7 +60,7 @@ type folderChains struct {
 	// Guards what follows.
 	mutex sync.Mutex
 	// The sequences by the digest of their key, in the order of their ends, and how many octets all of them have. One that has ended stays, and is
-	// not used, until another one needs its room: so a clock that is ahead for a while loses none.
+	// not used, until another one needs its room, or until a start over Days days later: so a clock that is ahead by less loses none.
 	byKey  map[string][]keptChain
 	octets int
 }
@@ -136,7 +136,7 @@ func (c *chains) check(isSigned bool) error {
 }
 
 // openChains opens the folder or the store of the sequences that clients have left, or returns nil if the configuration has none. mayRemove says whether
-// files of sequences that are not needed at `now` may be removed. It fails as openFolderChains does, or if the settings of the store are wrong.
+// files of sequences that are not needed at `now` may be removed. It fails as openFolderChains or openReader does.
 func openChains(c *config, now time.Time, mayRemove bool) (chainKeeper, error) {
 	switch {
 	case c.Chains == nil:
@@ -152,9 +152,10 @@ func openChains(c *config, now time.Time, mayRemove bool) (chainKeeper, error) {
 	return newStoredChains(c.Chains, reader), nil
 }
 
-// openFolderChains reads the sequences of a folder into memory. If mayRemove, it removes the files that are not needed: those of sequences that have
-// ended and whose room is needed, and those that were not written whole. mayRemove is false for -test, which changes no file. A file that the daemon
-// has not written is left out. It fails if the path is no folder, if the folder cannot be read, or if others than its owner may write it.
+// openFolderChains reads the sequences of a folder into memory. If mayRemove, it removes the files that are not needed, which `read` returns: of sequences
+// that ended over c.Days days ago, or that have ended and whose room is needed, and older files that were not written whole. mayRemove is false for -test,
+// which changes no file. A file that the daemon has not written is left out. It fails if the path is no folder, if the folder cannot be read, or if others
+// than its owner may write it.
 func openFolderChains(c *chains, now time.Time, mayRemove bool) (*folderChains, error) {
 	opened := &folderChains{chains: *c, byKey: map[string][]keptChain{}}
 	about, err := os.Stat(c.Folder)
@@ -184,7 +185,7 @@ func openFolderChains(c *chains, now time.Time, mayRemove bool) (*folderChains, 
 // read reads the file of a sequence into memory, and returns the files that can be removed. That is this file, if it was not written whole and is
 // older than mostPart, or if its sequence has ended and has no room, or ended over f.Days days ago: a clock that is ahead by less loses none. Or it
 // is the files of ended sequences whose room this one takes. `key` is the name of the file's folder. Without room for a sequence that has not ended,
-// or if the daemon has not written it, the file is left out and stays.
+// or if the file cannot be read or the daemon has not written it, the file is left out and stays.
 func (f *folderChains) read(key, name string, now time.Time) (removable []keptFile) {
 	path, thisFile := filepath.Join(f.Folder, key, name), []keptFile{{key, name}}
 	about, err := os.Stat(path)
@@ -259,8 +260,8 @@ func (f *folderChains) remove(files ...keptFile) {
 }
 
 // roomFor says whether a key can have one more sequence, of so many octets, and returns the files of those that have ended and must be removed for
-// it: none if there is room, and otherwise those of this key, and then of others, until there is. It removes nothing itself. The mutex is held, or no
-// other goroutine has `f` yet.
+// it: none if there is room, and otherwise those of this key, and then of others, until there is. Without hasRoom, none of `ended` must be removed. It
+// removes nothing itself. The mutex is held, or no other goroutine has `f` yet.
 func (f *folderChains) roomFor(key string, octets int, now time.Time) (ended []keptFile, hasRoom bool) {
 	// (each without the sequences in `ended`: how many this key has, how many keys there are, and the octets of all with the new one)
 	own, keys, total := len(f.byKey[key]), len(f.byKey), f.octets+octets
@@ -308,7 +309,8 @@ func (c *chains) whyNotBeside(others []keptChain, text string) answer {
 	return ""
 }
 
-// chainOf returns a sequence in transport form as it is kept from a moment on: for c.Days days, or until the first of its certificates ends.
+// chainOf returns a sequence in transport form as it is kept from a moment on: for c.Days days, or until the first of its certificates ends if that is
+// earlier.
 func (c *chains) chainOf(text string, from time.Time) keptChain {
 	until := from.AddDate(0, 0, c.Days)
 	if end, hasEnd := endOf(text); hasEnd && end.Before(until) {

@@ -18,7 +18,8 @@ const (
 	syncEach    = "each"
 )
 
-// A ledger is the log of grants: a file with a line for each. Only one daemon writes it. A line in it is whole or absent.
+// A ledger is the log of grants: a file with a line for each. Only one daemon writes it. What was written of lines that failed is cut off again. If that
+// fails too, or if the machine stopped meanwhile, the next line begins behind a line feed.
 type ledger struct {
 	// Its path, and syncNever, syncSeconds or syncEach.
 	path, syncs string

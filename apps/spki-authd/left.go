@@ -123,8 +123,8 @@ func (d *decider) keepCertificates(result record, key guard.ProvenKey, proof *ht
 	return result
 }
 
-// checkCertificates returns why a sequence is not kept for a key, or nil: a certificate is not signed or has ended early, or the subject of the last
-// one is not the key. It also fails as signaturesOf does, and if a store is stale. The record gets the digests of the certificates.
+// checkCertificates returns why a sequence is not kept for a key, or nil: a certificate has ended early or has no valid signature, or the subject of the
+// last one is not the key. It also fails as signaturesOf and namesKey do, and if a store is stale. The record gets the digests of the certificates.
 func (d *decider) checkCertificates(result *record, key guard.ProvenKey, sequence string) error {
 	signatures, err := d.config.signaturesOf(sequence, key, d.now())
 	if err != nil {

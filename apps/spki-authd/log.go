@@ -99,7 +99,7 @@ func (f *fields) addString(value string) {
 	*f = append(*f, escaped...)
 }
 
-// plain has true for each octet that encoding/json writes as it is.
+// plain has true only for octets that encoding/json writes as they are. It has false for DEL and all octets beyond ASCII, which this may write so too.
 var plain = func() (isPlain [256]bool) {
 	for octet := ' '; octet <= '~'; octet++ {
 		isPlain[octet] = !strings.ContainsRune("\"\\<>&", octet)
@@ -107,7 +107,7 @@ var plain = func() (isPlain [256]bool) {
 	return isPlain
 }()
 
-// isPlain says whether a text has only octets that encoding/json writes as they are.
+// isPlain says whether `plain` has true for each octet of a text.
 func isPlain(text string) bool {
 	for place := 0; place < len(text); place++ {
 		if !plain[text[place]] {

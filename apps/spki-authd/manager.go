@@ -26,7 +26,7 @@ const (
 const timeToNotify = time.Second
 
 // notify sends a message to the service manager, if there is one: READY=1, RELOADING=1, STOPPING=1 or STATUS=TEXT, one a line, as sd_notify(3) has them.
-// It fails if the manager takes no message in timeToNotify.
+// It fails if the manager cannot be reached, or takes no message in timeToNotify.
 func notify(message string) error {
 	path := os.Getenv(envNotify)
 	if path == "" {
@@ -45,7 +45,7 @@ func notify(message string) error {
 }
 
 // inheritedSocket returns the socket that the service manager has opened, or nil if it has not. In such a socket, connections wait while the daemon
-// is started again. It fails if the manager hands over another number of sockets than one.
+// is started again. It fails if the manager hands over another number of sockets than one, or if that one takes no connections.
 func inheritedSocket() (net.Listener, error) {
 	if os.Getenv(envProcess) != strconv.Itoa(os.Getpid()) {
 		return nil, nil

@@ -14,7 +14,7 @@ import (
 )
 
 // A probe sends a finished site requests that it must deny, and counts the answers. Each request is for a path of its own that is drawn at random: so
-// no file is read, changed or removed.
+// no file is read, changed or removed. Here and below, 5xx is without 501 and 505, by which a web server denies.
 type probe struct {
 	base *url.URL
 	// Whether the operator has stopped the daemon, so that the web server can grant only by a hole. Then at least one answer must be 5xx.
@@ -60,8 +60,8 @@ func verdictOf(status int) verdict {
 }
 
 // probeSite sends the site at an address requests that it must deny, and prints those that it grants. isStopped says that the daemon is stopped
-// meanwhile. The error is nil only if nothing was granted, and if the answers show that the daemon was stopped, or else that the first request and at
-// least half of all requests of each asker that sendAll does not leave out were decided.
+// meanwhile. The error is nil only if nothing was granted. With isStopped, some answer must also be 5xx. Without it, the first request and at least half
+// of all requests of each asker that sendAll does not leave out must have been decided.
 func probeSite(address string, isStopped bool, out io.Writer) error {
 	base, err := baseOf(address)
 	if err != nil {
@@ -80,8 +80,8 @@ func probeSite(address string, isStopped bool, out io.Writer) error {
 	return probe.end()
 }
 
-// baseOf reads the address of a folder, and returns it without the `/` at its end. It fails with errBase if the address has another scheme than https
-// or http, no host, a user, a query, even an empty one, a fragment, or an escape such as %2F, which decoding would change.
+// baseOf reads the address of a folder, and returns it without the `/` at its end. It fails with errBase if the address cannot be parsed, or has another
+// scheme than https or http, no host, a user, a query, even an empty one, a fragment, or an escape such as %2F, which decoding would change.
 func baseOf(address string) (*url.URL, error) {
 	base, err := url.Parse(address)
 	if err != nil || base.Scheme != "https" && base.Scheme != "http" {
@@ -129,8 +129,8 @@ func (p *probe) sendAll(asker asker) error {
 	return nil
 }
 
-// sendOthers sends all requests of `tries` but the first by an asker, and counts the answers, also in `counts` by their statuses. A request that the
-// protocol cannot send is not counted. It fails with errNothingShown if one request is answered by 429 again and again.
+// sendOthers sends all requests of `tries` but the first by an asker, and counts the answers, also in `counts` by their statuses, or as noAnswer. A request
+// that the protocol cannot send is not counted. It fails with errNothingShown if one request is answered by 429 again and again.
 func (p *probe) sendOthers(asker asker, counts map[string]int) error {
 	for _, each := range tries[1:] {
 		answer, err := asker.send(p.base, each)

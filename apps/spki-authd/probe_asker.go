@@ -154,7 +154,8 @@ func (a asker) send(base *url.URL, attempt try) (probeAnswer, error) {
 	}
 }
 
-// sendOnce sends a request once, for a new path, and returns the answer without its body. It fails if there is no answer within timeForAnswer.
+// sendOnce sends a request once, for a new path, and returns the answer without its body. It fails if the request cannot be sent, or if there is no answer
+// within timeForAnswer.
 func (a asker) sendOnce(base *url.URL, attempt try) (answer probeAnswer, err error) {
 	path := attempt.path
 	if path == "" {

@@ -82,8 +82,8 @@ func (r *record) noteSequence(list *list, sequence *shownSequence, notEnded int)
 }
 
 // status returns the HTTP status of an answer. `refused` is `refused_status` of the configuration, 400 or 403. Where it is 403, as nginx needs it,
-// `limited` is 403 too, since nginx takes no 429 either. `failed` is 503. Only `yes` is 200: so no web server takes the answer to certificates that
-// are left for a grant.
+// `limited` is 403 too, since nginx takes no 429 either. `failed` is 503. Only `yes` is 200: so the answer to certificates that are left is no grant. nginx
+// would take the 201 of these for a grant, but it asks by GET, and they are left by PUT.
 func (a answer) status(refused int) int {
 	switch a {
 	case answerYes:

@@ -32,7 +32,7 @@ func newRequestReader(connection io.Reader) *requestReader {
 }
 
 // next reads the line and the headers of a request, and returns the request, through which its body is read. It fails with errNoRequest for a line
-// `Content-Length:` without a number: net/http drops that line, and others may read a body behind it. Another error is that of net/http or of the
+// `Content-Length:` without a value: net/http drops that line, and others may read a body behind it. Another error is that of net/http or of the
 // connection. net/http reads from the buffer of `input` if the lines fit in that, and otherwise from a copy of the lines.
 func (r *requestReader) next() (*http.Request, error) {
 	isWhole, isClear, err := r.peekLines()
@@ -126,7 +126,7 @@ func isEmpty(line []byte) bool {
 
 var lengthName = []byte("content-length:")
 
-// isEmptyLength says whether a line is `Content-Length:` without a number.
+// isEmptyLength says whether a line is `Content-Length:` with nothing but white space behind it.
 func isEmptyLength(line []byte) bool {
 	// (the first letter rules out most lines, and costs less; the bit 0x20 makes it a small one)
 	if len(line) < len(lengthName) || line[0]|0x20 != lengthName[0] {

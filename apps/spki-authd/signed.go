@@ -1,6 +1,7 @@
 package main
 
-// Requests that a client has signed, by which it proves its key in place of TLS. A signature has a nonce, which is good for one granted request.
+// Requests that a client has signed, by which it proves its key in place of TLS. A signature has a nonce, which is good for one granted request, or for one
+// that leaves certificates.
 
 import (
 	"errors"
@@ -105,7 +106,8 @@ func (d *decider) clientOf(inquiry *inquiry) (client, *httpsig.Proof, error) {
 }
 
 // takeNonce uses up the nonce of a signed request that is granted, and returns the record. So only clients with a right fill the memory of nonces. A
-// request whose nonce was used before, or finds no room, becomes `refused`. `proof` is nil for a request that is not signed: then nothing is done.
+// request whose nonce was used before, or finds no room, or whose signature has expired since, becomes `refused`. `proof` is nil for a request that is
+// not signed: then nothing is done.
 func (d *decider) takeNonce(result record, proof *httpsig.Proof) record {
 	if proof == nil || result.Answer != answerYes {
 		return result

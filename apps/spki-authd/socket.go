@@ -30,7 +30,8 @@ func openSocket(path string) (net.Listener, error) {
 }
 
 // lengthenQueue sets the length of a listener's queue to mostWaiting. Go takes the length from /proc/sys, and 128 where that is hidden, as by
-// ProcSubset=pid of the daemon's unit. A client that finds the queue full is refused. A listener without a file descriptor stays as it is.
+// ProcSubset=pid of the daemon's unit. Where the queue of a Unix socket is full, a client that does not wait gets EAGAIN. A listener without a file
+// descriptor stays as it is.
 func lengthenQueue(listener net.Listener) error {
 	raw, isSystem := listener.(syscall.Conn)
 	if !isSystem {

@@ -149,8 +149,8 @@ func (c *config) nameLists() {
 }
 
 // read reads the list of a scope from its file. A list in a store is opened by the first call, which begins to poll the store. If the store does not
-// answer, that is no error here: requests are answered with 503 until it does. It fails if the file cannot be read or is refused, or if the settings of
-// the store are wrong. The list that is returned has no scope yet.
+// answer, that is no error here: requests are answered with 503 until it does. It fails if the file cannot be read or is refused, and as openReader and
+// newStore do. The list that is returned has no scope yet.
 func (s *scope) read(policy guard.Policy, c *config) (*list, error) {
 	if s.Source.store == nil {
 		return readList(s.List, policy, c.Limits)

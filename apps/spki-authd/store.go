@@ -1,8 +1,8 @@
 package main
 
 // A store: an access list in a database, with a row for each entry. The daemon reads the entries that a question needs, keeps them, and polls the
-// changes. A beat is a mark with the time that the store gets each second. The state is stale if its last beat is too old: then nothing is decided by
-// it.
+// changes. A beat is a mark with the time that the store gets each second. The state is stale if its last beat is too old, or too far ahead of the
+// daemon's clock: then nothing is decided by it.
 
 import (
 	"bytes"
@@ -18,7 +18,8 @@ import (
 )
 
 // A store has the entries of an access list in a database. A decision needs only those whose principal is the key of the first issuer, or the client's key
-// where no certificate is shown: docs/PROOFS.md, `decided_by_kept`. Entries that were read are kept until a poll reads that they have changed.
+// where no certificate is shown: docs/PROOFS.md, `decided_by_kept`. Entries that were read are kept until a poll reads that they have changed or cannot
+// tell, or until cache_mib has no room for them.
 type store struct {
 	options *storeSettings
 	reader  reader
@@ -125,8 +126,8 @@ func newStore(options *storeSettings, reader reader, open func(list []byte) (*gu
 		kept: newKeptLists(*options.CacheMiB << 20), ended: map[digest]struct{}{}, fault: errNever}, nil
 }
 
-// list returns a list of the entries that a question can need: one that is kept, or a new one. The caller closes its guard if it isPassing. It fails
-// with the library's refusal of the question's sequence, if the store is stale, before the entries are read or after it, or if it cannot be read.
+// list returns a list of the entries that a question can need: one that is kept, or a new one. The caller closes its guard if it isPassing. It fails as
+// keyOf and read do, and if the store is stale before the entries are read or afterwards.
 func (s *store) list(question *guard.Question) (*list, error) {
 	key, err := s.keyOf(question)
 	if err != nil {
@@ -302,7 +303,8 @@ func (s *store) checkFresh() error {
 }
 
 // age returns how old the state is at `now`: how old its beat was when a poll first read it, by the time of day, and the time since, by the monotonic
-// clock. That clock stops while the machine sleeps, so the time of day counts if it says more. It fails if the beat is over mostAhead in the future.
+// clock. That clock stops while the machine sleeps, so the time of day counts if it says more. It fails if the beat was over mostAhead in the future when
+// a poll first read it.
 func (p *polledState) age(now time.Time) (time.Duration, error) {
 	if p.lag < -mostAhead {
 		return 0, fmt.Errorf("%w: its beat is %v ahead of the daemon's clock", errStale, -p.lag)

@@ -58,7 +58,7 @@ func (s *storedChains) whyNotAdded(key string, chain keptChain, now time.Time) (
 }
 
 // add has the store keep a sequence for a key, and returns its answer: `kept`, `known` or `full`, or `failed` with an error, also where the store
-// answers anything else. What was cached for the key is forgotten. The last argument, the time, is not needed: the store has a clock.
+// answers anything else. Without an error, what was cached for the key is forgotten. The last argument, the time, is not needed: the store has a clock.
 func (s *storedChains) add(key string, chain keptChain, _ time.Time) (answer, error) {
 	reply, err := s.reader.keep(digestIn(key), chain, s.chains)
 	if err == nil && reply != answerKept && reply != answerKnown && reply != answerFull {

@@ -17,8 +17,8 @@ func (s *store) poll() {
 }
 
 // pollOnce reads what has changed since the last poll. Where the changes are not known, as at the first poll or after a failover to a server that lacks
-// some, or where they are too many, it drops all lists that are kept, and reads all ended certificates again. If the database does not answer, or refuses
-// the statement, it returns that error, and the state that was polled last stays.
+// some, or where they are too many, it drops all lists that are kept, and reads all ended certificates again. If the reader fails, it returns that error,
+// and what was polled last stays.
 func (s *store) pollOnce() error {
 	before, begun := s.lastPolled(), s.now()
 	var result pollResult

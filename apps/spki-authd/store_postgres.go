@@ -2,8 +2,8 @@
 
 package main
 
-// The statements by which a store in PostgreSQL is read. A row of their results begins with the state of the store: its version, its last change and
-// its last beat.
+// The statements by which a store in PostgreSQL is read, and by which a sequence of certificates is kept in it. A row of askRows, askChangesSince and
+// askAllEnded begins with the state of the store: its version, the number of its last change, and the number and the time of its last beat.
 
 import (
 	"context"
@@ -25,7 +25,7 @@ import (
 // A pool is the reader of a store in PostgreSQL: it has connections to the server. A slot is an open connection, or nil for one that is not open.
 type pool struct {
 	connector *pq.Connector
-	// How long the pool waits for each read of an answer, and for a free slot.
+	// How long the pool waits for a free slot, until it is connected, and for each read and each write of a connection.
 	patience time.Duration
 	slots    chan *link
 	// The SQL of each statement, by its number: askRows to askKeep.

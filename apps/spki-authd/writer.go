@@ -16,8 +16,8 @@ type sink interface {
 	write(lines []byte) error
 }
 
-// A writer passes lines to a sink by one goroutine, all that wait at once. Its callers wait until their line is written, but no longer than `patience`: so
-// a disk or a reader of the lines that hangs blocks no answer.
+// A writer passes lines to a sink by one goroutine, those of a batch at once. Its callers wait until their line is written or fails, but no longer than
+// `patience`: so a disk or a reader of the lines that hangs blocks no answer.
 type writer struct {
 	to       sink
 	patience time.Duration
@@ -59,7 +59,7 @@ type batch struct {
 	err    error
 }
 
-// The most lines that may wait when offer is called, and the octets from which on a batch takes no further line.
+// The number of waiting lines from which on offer drops its line, and the octets from which on a batch takes no further line.
 const (
 	mostQueued = 1024
 	mostAtOnce = 1 << 18
@@ -86,8 +86,8 @@ func newWriter(to sink, patience time.Duration, eachSecond func()) *writer {
 	return started
 }
 
-// write writes a line, which ends with a line feed, and returns when it is written. If it fails with errHangs, the line may still be written later, and with
-// another error it is not. The caller may use the line's octets again in each case.
+// write writes a line, which ends with a line feed, and returns when it is written. If it fails with errHangs, the line may still be written later. After
+// another error, which is that of the sink, it does not count as written. The caller may use the line's octets again in each case.
 func (w *writer) write(line []byte) error {
 	const isKept = false
 	w.mutex.Lock()
@@ -97,8 +97,8 @@ func (w *writer) write(line []byte) error {
 	return batch.err
 }
 
-// offer writes a line, which ends with a line feed, and waits until it is written or late. If earlier lines are late, it does not wait. If mostQueued lines
-// wait, the line is dropped and counted. The caller may use the line's octets again in each case.
+// offer writes a line, which ends with a line feed, and waits until it is written, fails or is late. If lines were late since the last successful write, it
+// does not wait. If mostQueued lines wait, the line is dropped and counted. The caller may use the line's octets again in each case.
 func (w *writer) offer(line []byte) {
 	w.mutex.Lock()
 	if w.queued >= mostQueued {
