@@ -9,8 +9,8 @@ use std::time::{SystemTime, UNIX_EPOCH};
 /// The most strings of a request that is lent without an allocation.
 const WORDS: usize = 16;
 
-/// What a service asks a guard. Each text is one value in any of the three forms of RFC 9804, so that no octets of one part can become
-/// another part.
+/// What a service asks a guard. Each part is a separate text, so that no octets of one part can become another part. A text is one value in any of
+/// the three forms of RFC 9804. The strings of `Request::Words` are no such texts: they may have any octets.
 #[non_exhaustive]
 #[derive(Clone, Copy, Debug)]
 pub struct Question<'q> {
