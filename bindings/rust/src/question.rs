@@ -80,7 +80,7 @@ impl<'q> Question<'q> {
         }
     }
 
-    /// Calls `call` with the question as the library takes it, and returns what it returns. The pointers in the question are valid during this
+    /// Calls `call` with the question as the library takes it, and returns what `call` returns. The pointers in the question are valid during this
     /// call only: up to `WORDS` strings of a request lie on the stack, and more in a vector.
     pub(crate) fn lend<T>(&self, call: impl FnOnce(&sys::Question) -> T) -> T {
         let Request::Words(words) = self.request else {

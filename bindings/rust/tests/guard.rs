@@ -4,8 +4,8 @@
 //! By the access list LIST key a may do everything, and may delegate it. PAIR is a certificate of a for key b with its signature, and SIGNED what a
 //! verifier gets of the two. OWN is one of a for itself that delegates, so that PAIR may follow it. FORGED is a sequence for key c, whose signature
 //! is not valid. A question is by b (KEY), for the request WORDS, at NOW, but for the parts that a test gives it. `sequence_of(2)` has PAIR twice.
-//! `guard` has the highest limits. `Guard::ask` opens a question: its signatures have places, from 0, by which a test marks those that count as valid.
-//! An item is a certificate or a signature of a sequence, from 1.
+//! `guard` has the highest limits. `Guard::ask` opens a question: its signatures have places, from 0, by which a test marks those that count as
+//! valid. An item is a certificate or a signature of a sequence, from 1.
 
 use spki::{
     Asked, Cause, Denied, Explanation, Fault, Grant, Guard, Limits, Moment, NotProved, Part,
