@@ -1,4 +1,5 @@
-//! The calls of `spki.h`, as it declares them. Its head has the rules for callers. The crate `spki` is the safe interface.
+//! The calls of `spki.h`, as it declares them, but for `spki_check_accepted`. The head of that file has the rules for callers. The crate `spki`
+//! is the safe interface.
 
 #![no_std]
 #![deny(missing_docs)]
