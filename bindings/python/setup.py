@@ -49,7 +49,7 @@ class BuildWithLibrary(build_py):
     """Builds the packages, with the library beside the module that loads it, unless SPKI_LIBRARY is `none`."""
 
     def run(self):
-        """Builds the packages, and puts the library beside them. Ends setup as `library` does."""
+        """Builds the packages, and puts the library into `spki`, unless SPKI_LIBRARY is `none`. Ends setup as `library` does."""
         super().run()
         inside = os.path.join(self.build_lib, "spki", "libspki_c.so")
         # (that of an earlier build in this folder: copy_file would keep it if it is newer)

@@ -345,7 +345,7 @@ class OpenedQuestions(unittest.TestCase):
             self.assertEqual(({id(signature.key) for signature in signatures}, len(signatures)), ({id(signatures[0].key)}, 40))
 
     def test_each_call_holds_the_lock(self):
-        """Each call of the library that reads a signature of an opened question, marks one or answers is made while the question's lock is held: so
+        """Each call of the library by which an `Asked` reads a signature, marks one or answers is made while the lock of the `Asked` is held: so
         none is made while another thread marks a signature. A free-threaded Python has no other lock that would ensure it."""
         opened, is_held = self.guard.ask(new_question()), {}
         with contextlib.ExitStack() as patches:

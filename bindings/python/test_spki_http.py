@@ -254,7 +254,7 @@ class Clients(unittest.TestCase):
         self.signers = [ed25519_signer(Ed25519PrivateKey.generate()), curve_signer()]
 
     def check_requests(self, send: Callable[[spki_http.Signer, str, bytes | None], bytes]) -> None:
-        """Has `send(signer, method, body)` send requests of each signer. It returns the server's answer, which must be the signer's key."""
+        """Has `send(signer, method, body)` send requests of each signer. `send` returns the server's answer, which must be the signer's key."""
         for signer in self.signers:
             for method, body in (("GET", None), ("PUT", b"some octets"), ("PUT", b""), ("DELETE", None)):
                 self.assertEqual(send(signer, method, body), signer.key, method)
@@ -284,8 +284,8 @@ class Clients(unittest.TestCase):
                 signer.fields("GET", "https://files.example.org/a", b"", own_fields, ["x-job", absent])
 
     def test_what_cannot_be_signed(self) -> None:
-        """An address or a method that each verifier would refuse is a `ValueError`, such as one with the sign of kelvin: in small
-        letters it is k."""
+        """An address or a method that cannot be signed is a `ValueError`, such as one with the sign of kelvin, which is no ASCII: in
+        small letters it is k."""
         for method, url in (("GET", "https://a.example/b c"), ("GET", "https://a.example/\u212a"), ("G T", "https://a.example/"),
                             ("", "https://a.example/"), ("\u212a", "https://a.example/"), ("GET", "ftp://a.example/"),
                             ("GET", "https://a:b@a.example/"), ("GET", "/b")):

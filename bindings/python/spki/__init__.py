@@ -12,21 +12,22 @@ A service reads its access list once, into a `Guard`, and asks it a `Question` f
         if guard.decide(question, verify):
             ...
 
-The parts of a question come from different sources, so each is a separate text. It is one value in any of the three forms of RFC 9804. No
-octets of one part can become another part. The client must have proved that it holds the key: `ProvenKey` says how. The moment is the time of
-the service's own clock. A grant holds from this moment to `Grant.until`, and a no for its moment alone.
+The parts of a question come from different sources, so each is a separate argument: no octets of one part can become another part. A text is one
+value in any of the three forms of RFC 9804, and each of the `words` is a string of any octets. The client must have proved that it holds the key:
+`ProvenKey` says how. The moment is the time of the service's own clock. A grant holds from this moment to `Grant.until`, and a no for its moment
+alone.
 
 `decide` returns a `Grant`, or `None` for a no. `require` raises `Denied` instead. A failed allocation of the library raises `Refused`.
-Several threads may use one guard and one opened question. A thread that calls has 256 KiB of stack left: `threading.stack_size` must not be
-lower.
+Several threads may use one guard and one opened question. A thread that calls must have 256 KiB of stack left: a `threading.stack_size` that is
+set must be higher.
 
 A guard and an opened question are of one process. To copy or pickle one is a `TypeError`: pass the same object to threads, and read the list
 again in another process. A child that a process with one thread forked may use what was open then, and frees nothing of it. No call is made in
 a child that a process with several threads forked: start processes by `multiprocessing`'s method "spawn" or "forkserver", or fork before the
 first thread. A `Question` is only its parts, so it may be copied and pickled.
 
-The environment variable SPKI_LIBRARY names the file of `libspki_c.so`, if it is neither in this package nor where the loader looks. The
-library's decisions are proved. The lines of this module are tested and not proved.
+The environment variable SPKI_LIBRARY names the file of `libspki_c.so`. Without it the one in this package is loaded, or else one that the loader
+finds. The library's decisions are proved. The lines of this module are tested and not proved.
 """
 from __future__ import annotations
 
@@ -240,7 +241,7 @@ class Guard(_Closable):
 
     def __init__(self, access_list: bytes, policy: Policy = Policy.STRICT, limits: Limits = Limits()) -> None:
         """Reads `(acl entry ..)`, in any of the three forms. `limits` bound its questions and answers. Raises `Refused` if
-        the text is no access list, or is longer than 1,048,576 octets, and `TypeError` for arguments of other types."""
+        the text is no access list, is longer than 1,048,576 octets, or an allocation failed, and `TypeError` for arguments of other types."""
         if not isinstance(policy, Policy) or not isinstance(limits, Limits):
             raise TypeError("a guard has a `Policy` and `Limits`")
         text, self._policy, self._answer_octets = octets_of(access_list), policy, limits.answer or _library.USUAL_ANSWER
@@ -387,8 +388,8 @@ class _AnswerMemory:
         self.at_buffer = c_void_p(addressof(self.first))
 
 
-# Memory that no call uses, to be used again, since making it takes some microseconds: for each kind as many as there
-# were calls at the same time. Behind them, the small numbers that `_size_argument` returns.
+# Memory that no call uses, to be used again, since making it takes some microseconds: for each kind at most as many
+# as there were calls at the same time. Behind them, the small numbers that `_size_argument` returns.
 _spare_calls: list[_CallMemory] = []
 _spare_answers: list[_AnswerMemory] = []
 _small_sizes = [c_size_t(number) for number in range(64)]
@@ -412,8 +413,8 @@ def _take_answer_memory() -> _AnswerMemory:
 
 
 def _size_argument(number: int) -> c_size_t:
-    """A number as an argument of the library. Those from 0 to 63 were made once, to save time. `c_size_t` turns one below 0 into a number so high
-    that the library refuses it as a place."""
+    """A number as an argument of the library. Those from 0 to 63 were made once, to save time. `c_size_t` turns -1 into a number so high that the
+    library refuses it as a place."""
     return _small_sizes[number] if 0 <= number < len(_small_sizes) else c_size_t(number)
 
 

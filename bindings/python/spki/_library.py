@@ -1,4 +1,4 @@
-"""`libspki_c`, found and loaded, with the structures and calls that spki.h declares."""
+"""`libspki_c`, found and loaded, with the structures and calls of spki.h that this package uses."""
 import ctypes
 import ctypes.util
 import os
@@ -8,7 +8,7 @@ from collections.abc import Callable
 from ctypes import POINTER, Structure, c_bool, c_char_p, c_int, c_int64, c_size_t, c_uint, c_void_p
 from typing import Protocol, cast
 
-# `enum spki_status`, and `enum spki_command`.
+# Those numbers of `enum spki_status`, and of `enum spki_command`, that this package uses.
 NO, REFUSED, TOO_SMALL, DONE, NO_MEMORY, YES = 1, 2, 4, 6, 8, 9
 CANONICAL, ADVANCED, TRANSPORT = 0, 1, 2
 # The most that limits may set, and the usual limit of an answer. HIGHEST is for the other limits: the highest `size_t`.

@@ -13,7 +13,7 @@ from typing import NamedTuple, NoReturn, Union
 from . import _library
 from ._words import Cause, Fault, Part
 
-# The last word of a line that begins with a capital letter; and a line of an explanation: the numbers of the entry and of
+# In a line, the last word that begins with a capital letter; and a line of an explanation: the numbers of the entry and of
 # the item, which a line may lack, and the word.
 FAULT = re.compile(r".*\b([A-Z]\w*)")
 REASON = re.compile(r"^(?:entry (\d+) )?(?:item (\d+) )?(\w+)$", re.MULTILINE)
@@ -73,11 +73,11 @@ class Limits:
     work: int = 0
     """The most work of all certificates and entries together, as `struct spki_limits` of spki.h counts it."""
     answer: int = 0
-    """The most octets of the lines of `explain` or `reduce`. A call reserves address space for as many, and uses the
-    memory that the lines need."""
+    """The most octets of the lines of `explain` or `reduce`. A call reserves address space for as many or more, and uses
+    the memory that the lines need."""
 
     def __post_init__(self) -> None:
-        """Raises `TypeError` for a limit that is no `int`, and `ValueError` for one below 0 or over the highest."""
+        """Raises `TypeError` for a limit that is no `int` or is a `bool`, and `ValueError` for one below 0 or over the highest."""
         most_by_name = {"octets": _library.MOST_OCTETS, "nodes": _library.MOST_NODES, "work": _library.MOST_WORK,
                         "answer": _library.MOST_ANSWER}
         for field in fields(self):
@@ -106,8 +106,8 @@ class Scheme(enum.Enum):
 
 @dataclass(frozen=True, kw_only=True)
 class Signature:
-    """A signature that is to be verified: whether `value` is one of `message` by `key`. The three are octets of canonical forms: of the issuer's
-    `(public-key ..)`, of the certificate, and of the value in `(signature ..)`."""
+    """A signature that is to be verified: whether `value` is one of `message` by `key`. In a question the three are octets of canonical forms: of the
+    issuer's `(public-key ..)`, of the certificate, and of the value in `(signature ..)`. For `ProvenKey.by` the message is what the service made."""
 
     key: bytes
     message: bytes
@@ -209,9 +209,9 @@ class Question:
 
         The request is given by `words`, its strings, each as octets that may come from the client: several strings are
         the list of them, and one is the string itself. Or it is given by `text`, one value. `moment` is the time of the
-        service's own clock, a `datetime` with a time zone, or the text of a date. A time before 1970 is refused as
-        `BadDate` when it is asked. Raises `TypeError` for arguments of other types, and if the request is given in both
-        ways or in none.
+        service's own clock, a `datetime` with a time zone, or the text of a date. A `datetime` before 1970 is
+        refused as `BadDate` when the question is asked, and the text of such a date is not. Raises `TypeError` for
+        arguments of other types, and if the request is given in both ways or in none.
         """
         if (words is None) == (text is None):
             raise TypeError("a request is given by `words` or by `text`, and not by both")

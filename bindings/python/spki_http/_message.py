@@ -37,7 +37,8 @@ class Message:
         return [value.strip(" \t") for field, value in self.fields if field.lower() == name]
 
     def may_have_body(self) -> bool:
-        """Whether the request may have a body, so that its digest must be covered. Each method but GET and HEAD may have one."""
+        """Whether the request may have a body, so that its digest must be covered. Each method but GET and HEAD may have
+        one. These two may if `has_body`, `body`, Content-Length or Transfer-Encoding says so."""
         lengths = [length for length in self.values("content-length") if length != "0"]
         return self.method not in ("GET", "HEAD") or self.has_body or bool(self.body or lengths or self.values("transfer-encoding"))
 

@@ -127,7 +127,7 @@ class Auth(_SignsForHosts):
 class Handler(_SignsForHosts, urllib.request.BaseHandler):
     """Signs the requests of `urllib`, as `Auth` does: `urllib.request.build_opener(Handler(signer, "files.example.org"))`."""
 
-    # (urllib's own handlers have the order 500, so they add their fields before this one)
+    # (urllib's own handlers that add fields have at most the order 500, so they add them before this one)
     handler_order = 900
 
     def https_request(self, request: urllib.request.Request) -> urllib.request.Request:

@@ -46,7 +46,7 @@ class Nonces(Protocol):
 class Memory:
     """Keeps nonces in two sets of at most `most` each, as digests of key and nonce. New ones go into the young set.
     Once the young set is as old as the time for which a nonce is kept, the next `take` makes it the old set, and drops
-    the one before. `young_since` is when the young set was begun, in seconds since 1970."""
+    the one before. If it is twice as old, both are dropped. `young_since` is when the young set was begun, in seconds since 1970."""
 
     def __init__(self, most: int = USUAL_NONCES) -> None:
         """`most` is how many nonces each of the two sets may have, the old and the young one."""
@@ -103,8 +103,8 @@ class Verifier:
         `scheme` is `https` or `http`. `sequence` is the name of the field with the certificates, in small letters. `nonces`
         keeps the used nonces, in a `Memory` if it is None. `now` is the clock, in seconds since 1970, and `verify` says
         whether a signature is valid: `spki_verify` if it is None. A request that was created before `start`, in seconds
-        since 1970, is refused, since its nonce may be forgotten. It is the time now if it is None. Set it to 0 if the
-        nonces outlast the process. Raises `ImportError` if `verify` is None and `cryptography` is missing."""
+        since 1970, is refused, since its nonce may be forgotten. `start` is the time now if it is None, and 0 is for
+        nonces that outlast the process. Raises `ImportError` if `verify` is None and `cryptography` is missing."""
         # (without the empty name, which a request has whose Host is the default port alone)
         self.authorities = {authority_of(scheme, name) for name in authorities} - {""}
         self.scheme, self.sequence, self.now = scheme, sequence, now
@@ -180,9 +180,10 @@ class Verifier:
                 raise Refused(name)
 
     def _check_message(self, message: Message, signature_input: Input) -> tuple[bytes, tuple[str, bytes] | None]:
-        """Tests the method, the target and the authority, and that each field is covered that must be. Returns the
-        signed text, and the algorithm and octets of the body's digest, or None if none is covered. Raises `Refused` with
-        the name of the first test that fails."""
+        """Tests the method, the target and the authority, that each covered field is there once with a value that can
+        be signed, that each field is covered that must be, and the form of the digest. Returns the signed text, and the
+        algorithm and octets of the body's digest, or None if none is covered. Raises `Refused` with the name of the first
+        test that fails."""
         if not METHOD.fullmatch(message.method):
             raise Refused("bad-method")
         if not TARGET.fullmatch(message.target):

@@ -29,7 +29,8 @@ fn decide(
     guard.decide_by(&question, &mut Openssl)
 }
 
-/// Answers each line: `denied`, `written N` (octets), `not written`, what the file has, or `nothing is there`. A grant is kept while it holds.
+/// Answers each line: `denied`, `written N` (octets), `not written`, what the file has, or `nothing is there`. The last grant is used again for
+/// the same request while it holds.
 fn main() -> Result<(), Box<dyn Error>> {
     let arguments: Vec<String> = env::args().collect();
     let [_, list, folder, key, sequence] = &arguments[..] else {

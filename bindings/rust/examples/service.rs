@@ -40,7 +40,7 @@ fn answer(guard: &Guard, requests: &Requests, mut client: TcpStream) -> io::Resu
     client.write_all(lines.as_bytes())
 }
 
-/// Serves until it is killed. Fails for other words, a list that cannot be read or is refused, and if it cannot listen.
+/// Serves until it is killed. Fails for other words, a list that cannot be read or is refused, and if it cannot listen or accept.
 fn main() -> Result<(), Box<dyn std::error::Error>> {
     let arguments: Vec<String> = std::env::args().collect();
     let [_, list, name] = &arguments[..] else {

@@ -1,4 +1,4 @@
-//! Threads that decide by one guard and one opened question. The last one to end closes the guard.
+//! Threads that decide by one guard, each also by an opened question of its own. The last one to end closes the guard.
 //! `tests/suite/test_bindings.py` runs it under helgrind, and expects the line `400 granted`.
 
 use spki::{Guard, Limits, Moment, Policy, ProvenKey, Question, Request};

@@ -1,8 +1,8 @@
 //! Links `libspki_c`: that in the folder that `SPKI_LIB_DIR` names, else that of `pkg-config`. If there is none, the build ends with an error.
 //!
 //! The static library is linked if the folder has it, so that programs need no library where they run. `SPKI_SHARED=1` chooses the shared one.
-//! `pkg-config` is the program that `PKG_CONFIG` names, and each of its variables may have the target at its end, as in
-//! `PKG_CONFIG_PATH_aarch64-unknown-linux-gnu`. For another target than the host it is asked only if `PKG_CONFIG_SYSROOT_DIR`,
+//! `PKG_CONFIG` names another program in place of `pkg-config`. This variable and those of `pkg-config` may have the target at the end, as in
+//! `PKG_CONFIG_PATH_aarch64-unknown-linux-gnu`. For another target than the host `pkg-config` is asked only if `PKG_CONFIG_SYSROOT_DIR`,
 //! `PKG_CONFIG_ALLOW_CROSS` or `PKG_CONFIG` is set, with or without the target at its end: otherwise it would name a library of the host.
 
 use std::env;
@@ -80,8 +80,8 @@ fn link_lines(folder: &Path) -> Result<Vec<String>, String> {
     ])
 }
 
-/// The folder in which `pkg-config` has the library. `pkg-config` puts the root of the target's system before it. The variables of PLACES and
-/// PERMISSIONS that are set for the target are given to it without the target's name. The error says what to do.
+/// The folder in which `pkg-config` has the library. If `PKG_CONFIG_SYSROOT_DIR` is set, `pkg-config` puts it before the folder. The variables of
+/// PLACES and PERMISSIONS that are set for the target are given to it without the target's name. The error says what to do.
 fn folder_by_pkg_config() -> Result<PathBuf, String> {
     let if_set = |name: &&'static str| variable_for_target(name).map(|value| (*name, value));
     let places: Vec<_> = PLACES.iter().filter_map(if_set).collect();

@@ -94,7 +94,7 @@ pub(crate) fn lines_of(answer: Vec<u8>) -> String {
     lines
 }
 
-/// Makes a call that writes one line, which needs no allocation. `call` gets a buffer, its room, and where the length goes. `result_of` gets what
+/// Makes a call that writes one line, into a buffer on the stack. `call` gets a buffer, its room, and where the length goes. `result_of` gets what
 /// `call` returns, and the line, which is empty if the call writes none. Returns what `result_of` returns.
 pub(crate) fn call_for_line<A, T>(
     call: impl FnOnce(*mut c_void, usize, *mut usize) -> A,

@@ -194,7 +194,7 @@ impl Asked {
     ///
     /// # Errors
     ///
-    /// Tags or the lines are too large, or an allocation failed.
+    /// A limit of nodes, of work or of the answer is exceeded, or an allocation failed.
     pub fn explain(&self) -> Result<Explanation, Refusal> {
         let text = self.lines(sys::spki_asked_explain)?;
         Ok(Explanation { text })
@@ -205,7 +205,7 @@ impl Asked {
     ///
     /// # Errors
     ///
-    /// Tags or the lines are too large, or an allocation failed.
+    /// A limit of nodes, of work or of the answer is exceeded, or an allocation failed.
     pub fn reduce(&self) -> Result<String, Refusal> {
         self.lines(sys::spki_asked_reduce)
     }

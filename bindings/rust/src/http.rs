@@ -183,9 +183,9 @@ impl<N: TakeNonce> Requests<N> {
         }
     }
 
-    /// Tests the method, the target and the authority of a message, that the covered fields are there, and that its authorization, certificates and
-    /// digest are covered, as far as it has them. Returns the signed text, and the digest of the body if one is covered. Fails if none is covered
-    /// although the request may have a body, or if the digest cannot be read.
+    /// Tests the method, the target and the authority of a message, that each covered field is there once, and that its authorization, certificates
+    /// and digest are covered, as far as it has them. Returns the signed text, and the digest of the body if one is covered. Fails with the first of
+    /// these tests that fails, or if no digest is covered although the request may have a body, or if the digest cannot be read.
     fn check_message(
         &self,
         message: &Message,

@@ -29,7 +29,7 @@
 //! # Ok::<(), Box<dyn std::error::Error>>(())
 //! ```
 //!
-//! `SPKI_LIB_DIR` names the folder of `libspki_c`, if `pkg-config` does not know the library. A thread that calls must have 256 KiB of stack left,
+//! `SPKI_LIB_DIR` names the folder of `libspki_c`. Without it the build asks `pkg-config`. A thread that calls must have 256 KiB of stack left,
 //! and no call may be made in a child that a process with several threads forked.
 
 #![deny(missing_docs)]

@@ -9,8 +9,8 @@ use std::time::{SystemTime, UNIX_EPOCH};
 /// The most strings of a request that is lent without an allocation.
 const WORDS: usize = 16;
 
-/// What a service asks a guard. Each text is one value in any of the three forms of RFC 9804, so that no octets of one part can become
-/// another part.
+/// What a service asks a guard. Each part is a separate text, so that no octets of one part can become another part. A text is one value in any of
+/// the three forms of RFC 9804. The strings of `Request::Words` are no such texts: they may have any octets.
 #[non_exhaustive]
 #[derive(Clone, Copy, Debug)]
 pub struct Question<'q> {
@@ -80,7 +80,7 @@ impl<'q> Question<'q> {
         }
     }
 
-    /// Calls `call` with the question as the library takes it, and returns what it returns. The pointers in the question are valid during this
+    /// Calls `call` with the question as the library takes it, and returns what `call` returns. The pointers in the question are valid during this
     /// call only: up to `WORDS` strings of a request lie on the stack, and more in a vector.
     pub(crate) fn lend<T>(&self, call: impl FnOnce(&sys::Question) -> T) -> T {
         let Request::Words(words) = self.request else {

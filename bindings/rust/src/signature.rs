@@ -5,12 +5,13 @@ use std::borrow::Cow;
 use std::error::Error;
 use std::fmt;
 
-/// A signature that is to be verified: whether `value` is one of `message` by `key`. The texts are in canonical form.
+/// A signature that is to be verified: whether `value` is one of `message` by `key`. The three texts of a signature of a question are in
+/// canonical form.
 #[derive(Clone, Copy, Debug, PartialEq, Eq, Hash)]
 pub struct Signature<'a> {
     /// The key that has to have signed: the issuer's `(public-key ..)`.
     pub key: &'a [u8],
-    /// What is signed: the certificate.
+    /// What is signed: the certificate, or for [`ProvenKey::by`] the message that the service made.
     pub message: &'a [u8],
     /// The value in `(signature ..)`.
     pub value: &'a [u8],

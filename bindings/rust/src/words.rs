@@ -71,7 +71,7 @@ words! {
         Threshold,
         /// More than 64 lists that are open at once.
         TooDeep,
-        /// Tags or lines of an explanation or a reduction exceed a limit.
+        /// An explanation or a reduction exceeds a limit of nodes, of work or of the answer.
         TooLarge,
         /// A text or a question has more octets than a limit.
         TooLong,

@@ -2,10 +2,10 @@
 //! repository compares the answers to many questions with the program's.
 //!
 //! By the access list LIST key a may do everything, and may delegate it. PAIR is a certificate of a for key b with its signature, and SIGNED what a
-//! verifier gets of the two. OWN is the same of a for itself, which may precede PAIR. FORGED is a sequence for key c, whose signature is not valid. A
-//! question is by b (KEY), for the request WORDS, at NOW, but for the parts that a test gives it. `sequence_of(2)` has PAIR twice. `guard` has the
-//! highest limits. `Guard::ask` opens a question: its signatures have places, from 0, by which a test marks those that count as valid. An item is a
-//! certificate or a signature of a sequence, from 1.
+//! verifier gets of the two. OWN is one of a for itself that delegates, so that PAIR may follow it. FORGED is a sequence for key c, whose signature
+//! is not valid. A question is by b (KEY), for the request WORDS, at NOW, but for the parts that a test gives it. `sequence_of(2)` has PAIR twice.
+//! `guard` has the highest limits. `Guard::ask` opens a question: its signatures have places, from 0, by which a test marks those that count as
+//! valid. An item is a certificate or a signature of a sequence, from 1.
 
 use spki::{
     Asked, Cause, Denied, Explanation, Fault, Grant, Guard, Limits, Moment, NotProved, Part,
@@ -408,9 +408,9 @@ fn a_time_of_the_system_is_a_moment() {
     }
 }
 
-/// A moment before 1970 or past the year 9999, as some clocks give that failed, is refused, and revives no right that has ended. Second 0 is a moment
-/// like others. The year 9999 ends with the second 253,402,300,799. Of the seconds below 0, one is the least number of 32 bits, and one begins the
-/// year 0.
+/// A moment in seconds before 1970 or past the year 9999, as of a clock that failed, is refused, and revives no right that has ended. Second 0 is a
+/// moment like others. The year 9999 ends with the second 253,402,300,799. Of the seconds below 0, one is the least number of 32 bits, and one begins
+/// the year 0.
 #[test]
 fn a_moment_before_1970_or_past_9999_is_refused() {
     let ended =

@@ -13,7 +13,7 @@ thread_local! {
     static GRANTS: Cell<usize> = const { Cell::new(usize::MAX) };
 }
 
-/// Whether a request for so many octets is refused. Counts it if it is large.
+/// Whether a request for so many octets is refused. A large one uses up one of `GRANTS`, unless none is left.
 fn refuses(octets: usize) -> bool {
     let left = GRANTS.get();
     if octets >= LARGE {

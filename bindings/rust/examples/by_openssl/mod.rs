@@ -27,7 +27,7 @@ const ORDER_8_YS: [&str; 2] = [
     "7a03ac9277fdc74ec6cc392cfa53202a0f67100d760b3cba4fd84d3d706a17c7",
 ];
 
-/// The beginnings of public keys in DER, up to the octets of the key.
+/// Parts of public keys in DER: of Ed25519 the beginning, up to the octets of the key, and of RSA the algorithm, which is behind the tag and length.
 const ED25519: &[u8] = b"\x30\x2a\x30\x05\x06\x03\x2b\x65\x70\x03\x21\x00";
 const RSA: &[u8] = b"\x30\x0d\x06\x09\x2a\x86\x48\x86\xf7\x0d\x01\x01\x01\x05\x00";
 /// Tags of DER.

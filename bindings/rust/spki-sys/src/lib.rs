@@ -1,4 +1,5 @@
-//! The calls of `spki.h`, as it declares them. Its head has the rules for callers. The crate `spki` is the safe interface.
+//! The calls of `spki.h`, as it declares them, but for `spki_check_accepted`. The head of that file has the rules for callers. The crate `spki`
+//! is the safe interface.
 
 #![no_std]
 #![deny(missing_docs)]
@@ -49,7 +50,7 @@ pub const MOST_NODES: usize = 1_000_000;
 pub const MOST_WORK: usize = 1_000_000_000;
 /// The octets of the usual limit of an answer.
 pub const USUAL_ANSWER: usize = 1_048_576;
-/// The most octets that the safe interface lets this limit be.
+/// The most octets that the safe interface lets the limit of an answer be.
 pub const MOST_ANSWER: usize = 268_435_456;
 
 /// `struct spki_text`.

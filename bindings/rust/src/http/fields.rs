@@ -5,7 +5,7 @@ use super::Unproved;
 /// The label of the signature, and the value of its parameter `tag`.
 const LABEL: &str = "spki";
 pub(super) const TAG: &str = "spki";
-/// The most octets of a field that is taken apart, names of components in it, and digits of a number.
+/// The most octets of `Signature-Input` and of `Signature`, names of components, and digits of a number.
 const MOST_INPUT: usize = 8192;
 const MOST_COMPONENTS: usize = 32;
 const MOST_DIGITS: usize = 15;

@@ -16,7 +16,8 @@ pub trait TakeNonce {
 }
 
 /// Nonces in two sets, as hashes of key and nonce. New ones go into the young set. Once the young set is as old as the time for which a nonce is
-/// kept, it becomes the old set, and the old set is dropped. If two nonces have the same hash, the second is refused.
+/// kept, the next `take` makes it the old set, and drops the one before. If it is twice as old, both are dropped. If two nonces have the same
+/// hash, the second is refused.
 #[derive(Debug)]
 pub struct Nonces {
     /// How many each of the two sets may have.

@@ -7,6 +7,7 @@ use std::fmt;
 macro_rules! unproved {
     ($($variant:ident $name:literal,)*) => {
         /// Why a request proves no key. The names are those of docs/SIGNATURES.md, and `verifier-failed` for an error of the verifier.
+        /// No call of this module returns `OtherDigest`: it is for callers, who compare the body with the digest.
         #[non_exhaustive]
         #[derive(Clone, Copy, Debug, PartialEq, Eq, Hash)]
         pub enum Unproved {
