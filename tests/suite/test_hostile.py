@@ -51,8 +51,8 @@ READ_FAULT = (3, b"", b"spki: read fault\n")
 WRITE_FAULT = (3, b"", b"spki: write fault\n")
 UNSAID_FAULT = (3, b"", b"")
 
-# What each command writes on the cases of examples/, and on some of chains.py: the status and the line. A command that the program does not
-# have is passed over.
+# What commands write on cases of examples/, and on cases of chains.py: the status and the line. A command that the program does not have is
+# passed over.
 FILES = {
     "first-run.csexp": {"check": "0 yes entry 1", "explain": "0 entry 1 grants",
                         "reduce": "0 entry 1 (five (subject (public-key (test a))) (tag (ftp host)))"},
@@ -273,7 +273,7 @@ def interrupted_for_ever(program, example, call, asks, wanted):
 
 
 def one_run(program, what, wanted, call, *words):
-    """One run by the method `call` of a Program, with its words, which must end as wanted. Returns 1 run, 0 refusals, and a fault, named `what`."""
+    """One run by the method `call` of a Program, with `words`, which must end as `wanted`. Returns 1 run, 0 refusals, and a fault if it does not."""
     ended = getattr(program, call)(*words)
     return 1, 0, [] if ended.answer == wanted else [f"{what}: {ended}"]
 
