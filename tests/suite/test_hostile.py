@@ -1,6 +1,6 @@
-"""Runs the program under hostile conditions: each allocation, each read and each write fails in turn, texts are cut short, standard input and output
+"""Runs the program under hostile conditions: allocations, reads and writes fail in turn, texts are cut short, standard input and output
 fail, limits are tried from both sides, the stack is small, and texts need the most work. `test_one_call` does each call of the libraries by itself
-while requests for memory fail, on at most two rows of test_calls.py. `refuse.c` is compiled by `cc` and preloaded, and lets the chosen calls fail.
+while requests for memory fail, on at most two rows each of test_calls.py. `refuse.c` is compiled and preloaded, and lets the chosen calls fail.
 Each part is a test. A part is a function that yields tasks. A task is a function and its words, such as `refused_in_turn, example, ""`: it runs the
 `program`, an object of `harness.refusing`, and returns the number of runs, of refused calls, and the faults as texts. A run that `ended` has an
 `answer`: the status, the output and the errors. `ended.refused` is how many of its calls were refused, and `ended.asked` has how many it made of each

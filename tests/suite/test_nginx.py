@@ -2,7 +2,7 @@
 slow or pass limits, and the daemon is killed, hangs and is started again. test_attacks.py has the attacks. examples/nginx/run.sh, which shows the
 example, is run too, and its lines are compared. By the list of the site Ann may read and write below /web/. Ben may read there by a certificate of
 Ann, and Eve nothing. `self.site.status(WHO, METHOD, PATH)` is the status of the answer to a request of WHO: 2xx is a grant, 401 and 403 are denials,
-and 5xx says that nothing has decided. `waits_for(WHAT, IS_SO)` fails the test if that is not so after 600 seconds."""
+429 is past the rate, and 5xx says that nothing has decided. `waits_for(WHAT, IS_SO)` fails the test if that is not so after 600 seconds."""
 import contextlib
 import glob
 import json

@@ -117,7 +117,7 @@ def long_question():
 
 
 class OfPage(built.OfProgram):
-    """Tests of a page that runs, one for each class. `engine` says what decides there: `program` or `library`. A question may take `seconds`."""
+    """Tests of a page that runs: each class starts one. `engine` says what decides there: `program` or `library`. A question may take `seconds`."""
 
     engine, seconds = "program", SECONDS
     page: Any
