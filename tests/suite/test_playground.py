@@ -306,7 +306,7 @@ class Answers(OfPage):
         self.assertFalse(answer["signatures"][0]["counts"])
 
     def test_what_is_no_question(self) -> None:
-        """The server answers whatever JSON object it is sent. If `request` or `refused` is no list of the right type, a refusal names both."""
+        """The server answers each JSON object. If the field `request` or `refused` is no list of the right type, a refusal names field and type."""
         for question in ({}, {"acl": 5, "request": "x", "refused": "x"}, {"request": [1, None]}, {"acl": "(" * 100_000}, {"acl": "\ud800"}):
             self.assertEqual(self.page.ask("question", **question)["kind"], "refused")
         for name, kind, values in (("request", "a list of strings", (5, "x", {}, [*STORY["request"], 5])),
