@@ -282,7 +282,7 @@ class Binding(built.OfLibrary):
     def check_decisions(self, *words):
         """The example that the command `words` runs must grant the request to Bob, to whom Alice's certificate gives it, and deny it to Carol. It
         must deny it to Bob too if the signature is Alice's for another certificate. Alice's key is of each kind in turn."""
-        from spki_cert_tool import keys
+        from spki_cert_tool import keys  # (it needs cryptography, which may be missing)
         for kind in keys.KINDS:
             alice, bob, carol = (keys.FileSigner(keys.new_private(each)) for each in (kind, keys.P256, keys.ED25519))
             issuer = keys.principal_of(alice.key)

@@ -2,7 +2,7 @@
 pictures, what is written where, and how it is installed. Each test has an empty folder: `self.cert(WORD ..)` runs the command in it and returns what
 it writes, `self.write(NAME, TEXT)` writes a file there, and `self.at(NAME)` is its path. In Python an S-expression is octets or a list of
 S-expressions: `value_in(TEXT).value` is that of a text, and `sexp.canonical(VALUE)` its canonical form. The items of a sequence, numbered from 1, are
-keys, and certificates with their signatures. A test whose tool is missing is skipped, and the end of the run names the tool's Debian package."""
+keys, certificates and signatures. Functions import cryptography, since it may be missing. A test whose tool is missing is skipped."""
 import base64
 import collections
 import contextlib
@@ -44,7 +44,7 @@ TAG = "(packages (* set read write) (* prefix /web/))"
 # A reason as the library gives it: the numbers of an entry and an item, each or None, and the word of `explain`.
 Reason = collections.namedtuple("Reason", "entry item word")
 FEW_FILES, FILES = 100, 1000
-# How many times as much processor time FILES files may take as FEW_FILES, with some noise; and how many modules a start may load.
+# FILES files must take less than MOST_TIMES times the processor time of FEW_FILES, and a start must load fewer than MOST_MODULES modules.
 MOST_TIMES, MOST_MODULES = 20, 100
 SECONDS = 1800  # (after which a program that hangs is ended)
 MANUAL = text_of("docs/spki-cert.1")
@@ -293,7 +293,7 @@ class OfPassphrases(CommandTest):
 
     @needs.needs("openssl")
     def test_encrypted_keys_are_refused_without_a_terminal(self):
-        """Without a terminal, where the passphrase is typed, no encrypted key is read, and none is made. A new session has none."""
+        """Without a terminal, where the passphrase is typed, no encrypted key is read or made. A new session has no terminal."""
         self.make_pem_key("key.pem", "ed25519", "-aes-256-cbc", "-pass", "pass:sesame")
         done = subprocess.run([sys.executable, COMMAND, "key", "key.pem"], cwd=self.room, stdin=subprocess.DEVNULL, capture_output=True,
                               text=True, start_new_session=True)
@@ -408,8 +408,8 @@ class OfCertificates(CommandTest):
         self.assertEqual(len(value_in(octets_in(self.at("acl.tsexp"))).value), 3)
 
     def test_entries_are_removed(self):
-        """`entry --remove` removes all entries for a subject, named by its key or any hash of it, and no others. The status is 1 if there are
-        none."""
+        """`entry --remove` removes all entries for a key, or for a name of it, and no others. The word or the entry may have a hash of the key. The
+        status is 1 if no entry is removed."""
         for words in (("alice.pub",), ("bob.pub",), ("bob.pub", "--named", "team"), ("bob.pub",), ("alice.pub",)):
             self.cert("entry", "--to", *words, "--tag", TAG, "--yes", "--acl", "acl.sexp")
         output = self.cert("entry", "--remove", "--to", self.cert("key", "--hash", "bob.pub"), "--acl", "acl.sexp")
@@ -439,8 +439,8 @@ class OfCertificates(CommandTest):
         self.assertIn("acl.sexp: refused", self.cert(*to_bob, "--tag", TAG, *into_list, wanted=2))
 
     def test_no_file_is_half_written(self):
-        """A file that is there stays as it is if `spki-cert` fails, because it cannot write, or because it asks for --yes: the certificate has no
-        end. No temporary file is left."""
+        """Nothing is written where the output is a folder, or in a folder that is not there. A file stays as it is if `spki-cert` asks for --yes:
+        the certificate has no end. No temporary file is left."""
         self.write("c.sexp", "before")
         os.mkdir(self.at("folder"))
         self.assertIn("nothing was written", self.sign("--days", "1", "-o", "folder", wanted=2))
@@ -450,7 +450,7 @@ class OfCertificates(CommandTest):
         self.assertEqual([name for name in os.listdir(self.room) if name.startswith(".spki")], [])
 
     def test_show_says_who_and_until_when(self):
-        """`show` writes who gives whom which right until when, and whether the signature is valid: as text, as JSON, in braces, as a picture."""
+        """`show` writes who gives whom which right until when, and whether the signature is valid, also as JSON or picture, or the file in braces."""
         self.sign("--yes", "--until", "2026-06-30", "--propagate", "--comment", "the web", "-o", "c.sexp")
         output = self.cert("show", "--labels", ".", "--at", "2026-03-01", "c.sexp")
         for words in ("alice -> bob", "may delegate", "until 2026-06-30_23:59:59: valid now", f"may {TAG}", "the web", "the signature is valid"):
@@ -502,7 +502,7 @@ class OfMistakes(CommandTest):
                     guard.open_guard(text.encode() if isinstance(text, str) else text, strict=True, limits=guard.USUAL)
 
     def test_the_files_of_a_folder_are_checked(self):
-        """`check` reads the files in a folder that are S-expressions or keys. The status is 1 for remarks, and 2 if a service would refuse a file."""
+        """`check` reads the files in a folder that are S-expressions by their names, or keys. Its status is 1 for remarks, 2 if one is refused."""
         os.mkdir(self.at("folder"))
         self.write("folder/acl.sexp", "(acl)")
         self.write("folder/notes.txt", "(acl")
@@ -809,7 +809,7 @@ int main(int count, char **words)
         self.assertEqual([name for name in more if name.startswith(("cryptography", "bcrypt", "spki."))], [])
 
     def test_help_and_completion(self):
-        """The help of each command has an example, and that of `spki-cert` the exit statuses. A word that is no command is refused."""
+        """The help of these commands has an example, and that of `spki-cert` the exit statuses. A word that is no command is refused."""
         for command in ("", "key", "sign", "name", "entry", "show", "ask", "check", "request"):
             self.assertIn("example" if command else "exit status", self.cert(*command.split(), "--help"))
         self.assertIn("--propagate", self.cert("completion"))
@@ -829,7 +829,7 @@ int main(int count, char **words)
 
     def test_install_sh_installs_and_uninstalls(self):
         """install.sh takes a built program, a static library and the shared one beside it: empty files here. --uninstall leaves no file under the
-        prefix, the folder of the installation. Nothing is made beside it."""
+        prefix, the folder of the installation. Nothing is made beside the prefix."""
         for name in ("prog", "lib.a", "lib.so"):
             self.write(name, "")
         before = set(os.listdir(self.room))

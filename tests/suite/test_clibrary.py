@@ -1,5 +1,5 @@
-"""Asks the libraries for C what the program is asked, and compares the answers octet by octet. A question is a name, the number of a command, the
-text of a case, which has all that a decision depends on, and a text of separate rows, or no octets. An answer is a status and octets. The rows of a
+"""Asks the libraries for C what the program is asked, and compares the answers octet by octet. A question is a name, the number of a command, a text,
+most often a case, which has all that a decision depends on, and a text of separate rows, or no octets. An answer is a status and octets. Rows of a
 case, `(accepted ROW ..)`, say which signatures are valid. Rows apart are those rows as a text of their own.
 
 `clibrary.c` asks each question with no buffer, with one of no octets, with one octet too few, with enough and with more, between canaries, with
@@ -197,13 +197,13 @@ def rpath_to(shared):
 
 @functools.cache
 def all_questions(program):
-    """All questions with the wanted answers, made once for all tests. `program` is the path of `spki`."""
+    """The questions of files, of tables and of rows apart, with the wanted answers, made once for all tests. `program` is the path of `spki`."""
     files, tables = questions_of_files(program), list(questions_of_tables())
     return Questions(files, tables, list(rows_apart(program, files + tables)))
 
 
 def short_questions(program):
-    """For slow ways of asking: the questions of files and of rows apart of at most SHORT octets, and by hand the first 8, all with yes or no."""
+    """For slow ways of asking: the questions of files and of rows apart of at most SHORT octets, and by hand the first 8, which are yes or no."""
     asked = [*all_questions(program).files, *all_questions(program).apart]
     short = [((name, number, text, rows), wanted) for (name, number, text, rows), wanted in asked if len(text + rows) <= SHORT]
     return short + list(questions_by_hand())[:8]

@@ -140,7 +140,7 @@ class TestOfEnding(unittest.TestCase):
 
 
 class Ends(TestOfEnding):
-    """What gets into the file."""
+    """What gets into the file and out of it, and what stays in it."""
 
     def setUp(self) -> None:
         self.write(ENDED, sealed())

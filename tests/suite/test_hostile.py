@@ -1,6 +1,6 @@
-"""Runs the program under hostile conditions: each allocation, each read and each write fails in turn, texts are cut short, standard input and output
+"""Runs the program under hostile conditions: allocations, reads and writes fail in turn, texts are cut short, standard input and output
 fail, limits are tried from both sides, the stack is small, and texts need the most work. `test_one_call` does each call of the libraries by itself
-while requests for memory fail, on at most two rows of test_calls.py. `refuse.c` is compiled by `cc` and preloaded, and lets the chosen calls fail.
+while requests for memory fail, on at most two rows each of test_calls.py. `refuse.c` is compiled and preloaded, and lets the chosen calls fail.
 Each part is a test. A part is a function that yields tasks. A task is a function and its words, such as `refused_in_turn, example, ""`: it runs the
 `program`, an object of `harness.refusing`, and returns the number of runs, of refused calls, and the faults as texts. A run that `ended` has an
 `answer`: the status, the output and the errors. `ended.refused` is how many of its calls were refused, and `ended.asked` has how many it made of each
@@ -51,8 +51,8 @@ READ_FAULT = (3, b"", b"spki: read fault\n")
 WRITE_FAULT = (3, b"", b"spki: write fault\n")
 UNSAID_FAULT = (3, b"", b"")
 
-# What each command writes on the cases of examples/, and on some of chains.py: the status and the line. A command that the program does not
-# have is passed over.
+# What commands write on cases of examples/, and on cases of chains.py: the status and the line. A command that the program does not have is
+# passed over.
 FILES = {
     "first-run.csexp": {"check": "0 yes entry 1", "explain": "0 entry 1 grants",
                         "reduce": "0 entry 1 (five (subject (public-key (test a))) (tag (ftp host)))"},
@@ -273,7 +273,7 @@ def interrupted_for_ever(program, example, call, asks, wanted):
 
 
 def one_run(program, what, wanted, call, *words):
-    """One run by the method `call` of a Program, with its words, which must end as wanted. Returns 1 run, 0 refusals, and a fault, named `what`."""
+    """One run by the method `call` of a Program, with `words`, which must end as `wanted`. Returns 1 run, 0 refusals, and a fault if it does not."""
     ended = getattr(program, call)(*words)
     return 1, 0, [] if ended.answer == wanted else [f"{what}: {ended}"]
 

@@ -1,8 +1,8 @@
 """Tests what `spki-cert` does with mistakes: no file is lost, nothing is signed that was not meant, each message leads to the place, and no stream,
 signal or random word ends it by a traceback. Most tests have a folder with the private keys `alice`, `bob` and `carol`, their public keys `alice.pub`
 and so on, the access list acl.sexp with an entry for alice, her certificate `to-bob`, and an empty `folder`. `self.cert(WORD ..)` runs `spki-cert`
-there. Its status must be `wanted`: 0 is done, 1 is no, 2 says that a file or word is refused, 3 that reading or writing failed or that a signal came,
-and 4 asks for `--yes`, since the command is probably a mistake. In Python an S-expression is octets or a list of S-expressions."""
+there. Its status must be `wanted`: 0 is done, 1 is no or a remark, 2 refuses a file or word, 3 says that reading or writing failed or a signal came,
+and 4 asks for `--yes` or `--anyway`: the command is probably a mistake. In Python an S-expression is octets or a list of S-expressions."""
 import base64
 import contextlib
 import datetime
@@ -248,7 +248,7 @@ class OfWriting(TestWithKeys):
 
 @needs.needs(*needs.LIBRARY)
 class OfTheLibrary(TestWithKeys):
-    """No answer of the library is written over a file that the command reads."""
+    """Commands that ask the library write no case, sequence, picture or certificate over a file that they read."""
 
     def setUp(self):
         super().setUp()
@@ -486,7 +486,7 @@ class Child:
 
     def __init__(self, room, words, settings, stdin="/dev/null", stdout=None, before=lambda: None):
         """Starts `spki-cert` with these words, in the folder `room`, with the environment `settings`. `stdin` is a path, and `stdout` a function that
-        opens a file: None is a stream that is closed. `before` is called in the child first. The status is 99 if something raises an exception."""
+        opens a file: None is a stream that is closed. `before` is called in the child right before the command. An exception gives the status 99."""
         self.errors = tempfile.TemporaryFile()
         self.process = os.fork()
         if self.process == 0:
@@ -524,7 +524,7 @@ def writing_to(path, encoding="utf-8"):
 
 
 class OfStreams(TestWithKeys):
-    """What commands say if a stream is closed, full or of another encoding. `EACH` has the words of a command line for each."""
+    """What commands say if a stream is closed, full or of another encoding. `EACH` has command lines, as words, by a name for each."""
 
     EACH = {"key": ("key", "alice.pub"), "key new": ("key", "new", "--no-passphrase", "new"), "check": ("check", "acl.sexp"),
             "sign": ("sign", "--by", "alice", "--to", "bob.pub", "--tag", TAG, "--days", "1"), "show": ("show", "to-bob"),
@@ -568,7 +568,7 @@ class OfStreams(TestWithKeys):
 
 
 class OfSignals(TestWithKeys):
-    """Signals that a command gets while it waits. With the words of `WAITING` a command waits for its input, or for its output to be read."""
+    """Signals that a command gets while it waits or writes a file. With the words of `WAITING` it waits for input, or for its output to be read."""
 
     WAITING = {"key": ("key", "-"), "sign": ("sign", "--by", "-", "--to", "bob.pub", "--tag", TAG, "--days", "1", "-o", "c.sexp"),
                "name": ("name", "--by", "-", "--to", "bob.pub", "--name", "x", "--days", "1", "-o", "c.sexp"), "show": ("show", "-"),

@@ -2,7 +2,7 @@
 slow or pass limits, and the daemon is killed, hangs and is started again. test_attacks.py has the attacks. examples/nginx/run.sh, which shows the
 example, is run too, and its lines are compared. By the list of the site Ann may read and write below /web/. Ben may read there by a certificate of
 Ann, and Eve nothing. `self.site.status(WHO, METHOD, PATH)` is the status of the answer to a request of WHO: 2xx is a grant, 401 and 403 are denials,
-and 5xx says that nothing has decided. `waits_for(WHAT, IS_SO)` fails the test if that is not so after 600 seconds."""
+429 is past the rate, and 5xx says that nothing has decided. `waits_for(WHAT, IS_SO)` fails the test if that is not so after 600 seconds."""
 import contextlib
 import glob
 import json
@@ -120,7 +120,7 @@ class Sites(OfSite):
         self.addCleanup(lambda: self.restart_nginx("", ""))
 
     def restart_nginx(self, of_all: str, of_server: str, without: str = "no such line") -> None:
-        """Starts nginx again with the lines `of_all` outside its server and `of_server` in it, without those that the pattern `without` matches."""
+        """Starts nginx again with the lines `of_all` outside its server and `of_server` in it. The example's lines that match `without` are cut."""
         for name, place, lines in (("loopback.conf", "include files.conf;", of_all), ("files.conf", "server_name localhost;", of_server)):
             more = lines.replace("{room}", self.site.room)
             self.site.write(f"etc/{name}", re.sub(f"(?m)^ *{without}$", "", self.own_lines[name]).replace(place, f"{more}\n{place}", 1))
@@ -318,7 +318,7 @@ class Limits(OfSite):
         self.check_ann()
 
     def test_numbers_of_requests(self) -> None:
-        """Both logs have the number of a request, and a client cannot set it."""
+        """The logs of the daemon and of nginx have the number of a request, and a client cannot set it."""
         self.site.status("ann", "GET", "/web/index.html", "X-Request-Id: ann-was-here")
         last = self.lines()[-1]["id"]
         self.assertRegex(last, "^[0-9a-f]{32}$")

@@ -3,8 +3,8 @@ whichever of library and program decides. A mistake must be found at its place. 
 and too long bodies are refused. Text stays text in every box. A hostile text is stopped, and the page goes on. In Chromium also: typing, the keyboard
 alone, a link, 360 pixels, and that nothing of an answer stays when it is not the answer to what is typed. The page starts where `tests/run --quick`
 has left the program, and says this command where nothing is built. `bench/playground.py` measures its times by `InChromium`. An answer is an object
-of JSON: `line` is what the program's command `check` says, `reasons` are the lines of `explain`, and `faults` the mistakes by the box they are in,
-each with its `places` in the text. STORY is the question of the first example, which is granted: Carol requests a right."""
+of JSON: `line` is what the program's command `check` says, `reasons` has an object for each line of `explain`, and `faults` the mistakes by box, each
+with its `places` in the text. STORY is the question of the first example, which is granted: Carol requests a right."""
 import contextlib
 import http.client
 import io
@@ -32,7 +32,7 @@ BOXES = ("acl", "sequence", "key", "labels")
 MARKUP = '<img src="x" onerror="attacked=1"><script>attacked=1</script>'
 # How long a question may take on a page whose answers are compared, and on one that is given a hostile text. The first ends what hangs.
 SECONDS, HOSTILE_SECONDS = 600, 2
-# How often a question with HOSTILE_SECONDS is asked until it is answered in time, since the machine may be slow.
+# How often at most a question with HOSTILE_SECONDS is asked until it is answered in time, since the machine may be slow.
 TRIES = 100
 EXAMPLES = loaded(os.path.join(FOLDER, "examples.py")).EXAMPLES
 STORY = EXAMPLES[0]["question"]
@@ -117,7 +117,7 @@ def long_question():
 
 
 class OfPage(built.OfProgram):
-    """Tests of a page that runs, one for each class. `engine` says what decides there: `program` or `library`. A question may take `seconds`."""
+    """Tests of a page that runs: each class starts one. `engine` says what decides there: `program` or `library`. A question may take `seconds`."""
 
     engine, seconds = "program", SECONDS
     page: Any
@@ -152,7 +152,7 @@ class Answers(OfPage):
         self.assertEqual([sum(example["wanted"].endswith(f" {word}") for example in EXAMPLES) for word in words], [1] * len(words))
 
     def test_the_case_has_what_was_typed(self) -> None:
-        """The case of an answer has what was typed, signatures that the page made up, the accepted ones, and the policy. A refusal has no case."""
+        """The case of an answer has what was typed, signatures that the page made up, the accepted ones, and the policy if it is strict."""
         for question in (example["question"] for example in EXAMPLES if not example["wanted"].startswith("refused")):
             answer = self.page.ask("question", **question)
             _, acl, accepted, sequence, key, request, at, *policy = read(run(built.program(), "canonical", answer["case"].encode())[1])
@@ -306,7 +306,7 @@ class Answers(OfPage):
         self.assertFalse(answer["signatures"][0]["counts"])
 
     def test_what_is_no_question(self) -> None:
-        """The server answers whatever JSON object it is sent. It refuses a field that is no list of the right type, and names field and type."""
+        """The server answers each JSON object. If the field `request` or `refused` is no list of the right type, a refusal names field and type."""
         for question in ({}, {"acl": 5, "request": "x", "refused": "x"}, {"request": [1, None]}, {"acl": "(" * 100_000}, {"acl": "\ud800"}):
             self.assertEqual(self.page.ask("question", **question)["kind"], "refused")
         for name, kind, values in (("request", "a list of strings", (5, "x", {}, [*STORY["request"], 5])),
@@ -336,7 +336,7 @@ class Answers(OfPage):
 
     def test_counts_of_the_picture(self) -> None:
         """The picture says how many entries the list has, and how many certificates of a long chain are left out: it has at most 61 steps, 5 of them
-        without certificates, and 6 if one says what is left out. A certificate is two steps, or one if it is for the same key as the one before."""
+        without certificates, and 6 if one says what is left out. A certificate is two steps, or one if it is for its own issuer or before a gap."""
         key = STORY["key"]
         self.assertEqual([self.page.ask("question", **{**STORY, "acl": acl})["chain"]["steps"][0]["whole"] for acl in (
             f"(acl (entry {key} (tag x)))", f"(acl (entry {key} (tag x)) (entry {key} (tag x)))")], ["1 entry", "2 entries"])
@@ -370,7 +370,7 @@ class Hostile(OfPage):
     seconds = HOSTILE_SECONDS
 
     def field_of_answer(self, word, **question):
-        """The field `word` of the answer to a question. It is asked again, at most TRIES times, while that is missing: the machine may be slow."""
+        """The field `word` of the answer to a question, which is asked until an answer has it, at most TRIES times: the machine may be slow."""
         for _ in range(TRIES):
             answer = self.page.ask("question", **question)
             if word in answer:
@@ -513,7 +513,7 @@ class Faults(unittest.TestCase):
 
 @needs.needs(*needs.BROWSER)
 class InChromium(OfPage):
-    """The page as people use it."""
+    """The page as people use it. Functions import selenium, since it may be missing."""
 
     browser: Any
 
@@ -616,7 +616,7 @@ class InChromium(OfPage):
                 self.assertEqual(self.browser.execute_script(f"return [{elements}, typeof attacked]"), [0, "undefined"])
 
     def test_by_the_keyboard_alone(self) -> None:
-        """The tab key reaches all that can be used. A request is typed, a word a line. Arrow keys open another tab."""
+        """The tab key reaches each element of `wanted`. A request is typed, a word a line. Arrow keys open another tab."""
         from selenium.webdriver.common.action_chains import ActionChains
         from selenium.webdriver.common.keys import Keys
         reached: list[str] = []
@@ -749,7 +749,7 @@ class InChromium(OfPage):
         self.until("return document.getElementById('kind').textContent === 'Yes' && !document.querySelector('main > :not(.wide) .old, .verdict.old')")
 
     def test_a_server_that_has_ended(self) -> None:
-        """Each tab says that the server does not answer, and shows nothing of an earlier answer."""
+        """The tabs for questions, tags and forms say that the server does not answer, and show nothing of an earlier answer."""
         page = Page(self.engine, self.seconds)
         self.addCleanup(page.end)
         self.browser.get(page.address.geturl())
@@ -767,7 +767,7 @@ class InChromium(OfPage):
 
 
 class Starting(built.OfProgram):
-    """The page right after a clone, and after `tests/run --quick`."""
+    """How the page starts, after `tests/run --quick` and with the library of the package, and what it says where it cannot."""
 
     def test_the_page_starts_or_names_the_command_to_build(self) -> None:
         """In a copy of the sources without anything built, the page ends with status 2 and names the command. With the program that `tests/run
@@ -798,7 +798,7 @@ class Starting(built.OfProgram):
                 self.assertEqual((done.returncode, done.stdout, done.stderr.count("\n"), message in done.stderr), (2, "", 1, True), done.stderr)
 
     def test_a_program_that_is_gone(self) -> None:
-        """If a program that was there at the start cannot be run any more, the message says so."""
+        """If the program is not there when it is run, as if it had been removed after the start, the message says so."""
         engine = loaded(os.path.join(FOLDER, "engine.py"))
         with self.assertRaisesRegex(engine.Failed, "The program cannot be run: No such file or directory."):
             engine.ByProgram(os.path.join(FOLDER, "none")).command("canonical", b"x")

@@ -1,8 +1,8 @@
 """Tests `spki-store` and `spki-authd` with a list in PostgreSQL, on a server in a temporary folder. While another client changes the store, 1,500
 questions are asked, 20,000 in a long run. Only a long run asks daemons at replicas, while the primary is killed and a replica lags. A store has
-tables: `entries`, the `ended` certificates, `changes` (the log), `imports`, a `heartbeat`, and `chains`, the certificates that clients leave.
+tables: `entries`, `ended` certificates, `changes` (the log), `imports`, a `heartbeat`, `state`, and `chains`, the certificates that clients leave.
 `Store.rows(STATEMENT, VALUE ..)` runs a statement in which `{entries}` is that table, and returns its rows. `self.spki_store(STATUS, WORD ..)` runs
-the command, which must end with this status: 0 is done, 1 something wrong or missing, 2 a refusal, 3 a fault of the database or a file. A daemon
+the command, which must end with this status: 0 is done, 1 wrong, missing or different, 2 a refusal, 3 a fault of the database or a file. A daemon
 answers a request with 200 to grant it, 401 or 403 to deny it, and 503 if the state of its store is stale. A wait fails the test after 600 seconds."""
 import argparse
 import contextlib
@@ -576,7 +576,7 @@ class Asker(threading.Thread):
 
 
 class Heartbeat(OfStore):
-    """The heartbeat, where another server takes the place of the primary."""
+    """The heartbeat, where another server takes the place of the primary, and where a host does not answer."""
 
     def last_beat(self, server: databases.Server) -> int:
         """The number of the last heartbeat that a server has."""
