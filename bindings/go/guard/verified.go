@@ -2,8 +2,9 @@
 
 package guard
 
-// A Verified is a sequence whose signatures were marked as valid in a question. It has the sequence, so what was verified for one client does not
-// count for what another one shows. Only Asked.Verified makes one with marks. The zero Verified is the sequence without certificates.
+// A Verified is a sequence of which the first signatures, or all or none, were marked as valid in a question. It has the sequence, so what was
+// verified for one client does not count for what another one shows. Only Asked.Verified makes one with marks. The zero Verified is the sequence
+// without certificates.
 type Verified struct {
 	sequence []byte
 	policy   Policy
