@@ -66,9 +66,9 @@ def case(engine, sent):
 
 
 def decision_parts(sent_question, labels):
-    """Yields the decision of a question, then the reasons and the picture, then both again, now with the rights that remain. If the library refuses
-    to explain or to reduce, a notice is the last part. `sent_question` is a `SentQuestion` or a `SentCase`. Raises `Refused` if the library refuses
-    to decide."""
+    """Yields the decision of a question, then the reasons and the picture, then both again, now with the rights that remain. If the engine refuses
+    to explain or to reduce, a notice is the last part. `sent_question` is a `SentQuestion` or a `SentCase`. Raises `Refused` if the engine refuses to
+    decide."""
     line = sent_question.check()
     yield {"kind": "yes" if line.startswith("yes") else "no", "line": line}
     acl, sequence, key, request, at = sent_question.values()
@@ -181,7 +181,7 @@ def fault_of_tag(tag, line):
 
 def intersection(engine, tags, words):
     """The intersection of two tags, which are texts: the `text`, cut at MOST_LETTERS, `isWhole` if nothing is cut, and what `containment` says of it
-    and of the request of these words. If the library refuses them, only the `line` of the refusal."""
+    and of the request of these words. If the engine refuses them, only the `line` of the refusal."""
     try:
         tag = engine.command("intersect", b"(9:intersect" + b"".join(map(engine.canonical, tags)) + b")")
         return {"text": tag.decode()[:MOST_LETTERS], "isWhole": len(tag) <= MOST_LETTERS, **containment(engine, tag, words)}

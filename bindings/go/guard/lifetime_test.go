@@ -13,7 +13,7 @@ import (
 )
 
 // TestClose closes a guard before its question, and both twice. The question stays open after its guard. A call on a guard or a question that is
-// closed is ErrClosed.
+// closed is ErrClosed, or returns 0 or false if it has no error.
 func TestClose(t *testing.T) {
 	opened := openGuard(t, list)
 	asked := askAndMark(t, opened, questionWith(1))
@@ -38,8 +38,8 @@ func TestClose(t *testing.T) {
 	expectUnlisted(t, asked)
 }
 
-// TestCloseOfNoSignatures closes a question that lists no signature. Before Close its list is empty, which is no error. After Close each call is
-// ErrClosed, although there is no signature to copy.
+// TestCloseOfNoSignatures closes a question that lists no signature. Before Close its list is empty, which is no error. After Close, Each and
+// Verify are ErrClosed, although there is no signature to copy.
 func TestCloseOfNoSignatures(t *testing.T) {
 	asked := askAndMark(t, openGuard(t, list), questionWith(0))
 	if listed := asked.Signatures(); listed == nil || len(listed) != 0 || asked.Verify(acceptAll) != nil {
