@@ -35,7 +35,7 @@ def labels_of(engine, sent):
 
 def question(engine, sent):
     """Yields the answer to the question that the page sent in several boxes, in parts: the faults of the labels, the decision and its explanation,
-    the signatures, and the question as a case if the page wants it. If it cannot be read, the last part says why."""
+    the signatures, and the question as a case if the page wants it. If it is refused, the last part says why."""
     labels = labels_of(engine, sent)
     yield {"labelFaults": labels.faults}
     try:
@@ -66,8 +66,9 @@ def case(engine, sent):
 
 
 def decision_parts(sent_question, labels):
-    """Yields the decision of a question, then the reasons and the picture, then both again, now with the rights that remain. If the library refuses
-    to explain, a notice is the last part. `sent_question` is a `SentQuestion` or a `SentCase`. Raises `Refused` if the library refuses to decide."""
+    """Yields the decision of a question, then the reasons and the picture, then both again, now with the rights that remain. If the engine refuses
+    to explain or to reduce, a notice is the last part. `sent_question` is a `SentQuestion` or a `SentCase`. Raises `Refused` if the engine refuses to
+    decide."""
     line = sent_question.check()
     yield {"kind": "yes" if line.startswith("yes") else "no", "line": line}
     acl, sequence, key, request, at = sent_question.values()
@@ -133,8 +134,8 @@ def times(engine, sent):
 
 def tags(engine, sent):
     """Yields for each of the two tags that the page sent, `first` and `second`, whether it contains the request that the page sent. Then a hint, if
-    the request was probably meant as more than one string, and the intersection of the tags as `both`, if a guard accepts both. If the request cannot
-    be read, yields why, for each tag, and no more."""
+    a tag does not contain it and it was probably meant as more than one string, and the intersection of the tags as `both`, if a guard accepts both.
+    If the request is no list of strings, yields this, for each tag, and no more."""
     try:
         words = words_of(sent)
     except Refused as why:
@@ -180,7 +181,7 @@ def fault_of_tag(tag, line):
 
 def intersection(engine, tags, words):
     """The intersection of two tags, which are texts: the `text`, cut at MOST_LETTERS, `isWhole` if nothing is cut, and what `containment` says of it
-    and of the request of these words. If the library refuses them, only the `line` of the refusal."""
+    and of the request of these words. If the engine refuses them, only the `line` of the refusal."""
     try:
         tag = engine.command("intersect", b"(9:intersect" + b"".join(map(engine.canonical, tags)) + b")")
         return {"text": tag.decode()[:MOST_LETTERS], "isWhole": len(tag) <= MOST_LETTERS, **containment(engine, tag, words)}

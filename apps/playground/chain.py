@@ -39,8 +39,8 @@ class Chain:
         self.story, self.steps, self.subject = story, [], None
 
     def add_box(self, shape, label, whole, note="", state="plain"):
-        """Adds a box with a label and a note below it. `whole` is its text in full. `shape` is `list`, `subject` or `request`, and `state` is
-        `plain`, `good`, `bad` or `faint`, by which the page colours it."""
+        """Adds a box with a label and a note below it. `whole` is its text in full, or for a list how many entries it has. `shape` is `list`,
+        `subject` or `request`, and `state` is `plain`, `good`, `bad` or `faint`, by which the page colours it."""
         self.steps.append({"kind": "box", "shape": shape, "label": label, "note": note, "whole": whole, "state": state})
 
     def add_subject(self, subject, state="plain"):
@@ -87,8 +87,9 @@ class Chain:
         self.add_subject(subject_after(self.subject or issuer, item) if state == "plain" else subject_of(item), "faint" if word else "plain")
 
     def add_request(self, reason, right):
-        """Adds the box of the request, and the arrow to it, which says whether the chain of `reason` grants it. For NotTheKey a gap and the box
-        of the key that asks come first. `right` is the right that remains at the end of the chain, or None if it is not known."""
+        """Adds the box of the request, and the arrow to it, which says whether the chain of `reason` grants it. For NotTheKey a gap says that
+        it does not, and the box of the key that asks and the arrow come behind it. `right` is the right that remains at the end of the chain, or None
+        if it is not known."""
         story, word = self.story, reason.word
         is_granted = word == "grants"
         if word == "NotTheKey":

@@ -167,7 +167,7 @@ class ByProgram(Engine):
     def __init__(self, program):
         super().__init__()
         self.program = program
-        # (the comma at its end is for `__main__.py`, which prints ` decides` behind the name)
+        # (`__main__.py` prints ` decides` behind the name)
         self.name = "spki (compiled without proofs)" if program == UNPROVED_PROGRAM else "spki"
         self.signed = functools.lru_cache(CACHE_SIZE)(self.list_signed)
 
@@ -183,8 +183,8 @@ class ByProgram(Engine):
         return ended.stdout
 
     def parts(self, question):
-        """The canonical forms of the list, the sequence, the key, the request and the moment. Raises `Refused`. A fault of the form is named after
-        its part, as a guard names it."""
+        """The canonical forms of the list, the sequence, the key, the request and the moment. Raises `Refused`. A fault of the form in another part
+        than the list is named after this part, as a guard names it."""
         acl = self.canonical(question.acl)
         texts = (question.sequence, question.key, request_text(question.words), question.at)
         if sum(map(len, texts)) > MOST_OCTETS:
@@ -242,7 +242,7 @@ def signed_by(certificate, signature, keys, is_strict):
 
 
 def key_of(principal, keys, is_strict):
-    """The key that a principal names: itself, or the first of `keys` for a hash. None if no key has the hash."""
+    """The key that a principal names: itself, or for a hash the first of `keys` that it names. None if there is none."""
     if principal[0] == b"public-key":
         return principal
     return next((key for key in keys if names(principal, key, is_strict)), None)
@@ -280,7 +280,7 @@ def find_program():
 
 def choose_engine(wanted):
     """The engine that is `wanted`, "library" or "program". For None it is the library where it can be loaded, else the program. Raises `LookupError`
-    if it is not there, and says how to build it."""
+    if it is not there: its text says how to build it, or that SPKI_PROGRAM names none."""
     if wanted != "program":
         try:
             return ByLibrary()

@@ -1,4 +1,5 @@
-"""The questions to pick from: the guide's story, each cause of a no once, and a mistake. Each is the story with something changed."""
+"""The questions to pick from: the guide's story, a group, each cause of a no once, an empty list and a mistake. All but the first are the story with
+something changed."""
 
 ALICE, BOB, CAROL = (f"(public-key (test {name}))" for name in ("alice", "bob", "carol"))
 LABELS = f"Alice {ALICE}\nBob {BOB}\nCarol {CAROL}"

@@ -6,7 +6,7 @@ from typing import NamedTuple
 from spki_cert_tool.forms import Parser, Wrong
 from spki_cert_tool.places import places_of, read_text, refusal, value_in
 
-# What is underlined from a place on: a word, or one character.
+# What is underlined from a place on: a word, or one character, or nothing at the end of the text.
 WORD = re.compile(r"\(?[\w\-./:*+=]+|.|$", re.DOTALL)
 # The number of an item, in a refusal and in a remark.
 NUMBER = re.compile(r"\b(?:sequence|item) ([1-9]\d*)\b")

@@ -26,6 +26,7 @@ WORDS = {
     "NotAccepted": ("The signature of certificate {number} does not count.",
                     "A service accepts a signature that it has verified. Here a tick, or a row of the case, stands for that."),
 }
+# What the page says of a refusal with this line. Of any other it shows the remark at its place.
 REFUSED = {
     "refused TooLarge": "The tags are too large to intersect.", "refused Memory": "There was not enough memory.",
     "refused question TooLong": "The certificates, key, request and moment have more than 65,536 octets together."}

@@ -1,6 +1,6 @@
 """The page over HTTP, on loopback only.
 
-A request is answered only if it comes to this host and port, and has the token in its path. A request that asks something must also come
+A request is refused unless it comes to this host and port, and has the token in its path. A request that asks something must also come
 from the page itself: its origin is this host and port. So no other page of the browser can ask, also not by a name that leads here.
 """
 import contextlib
@@ -71,7 +71,7 @@ class Handler(http.server.BaseHTTPRequestHandler):
             raise
 
     def give_file(self):
-        """Answers with the file of the page that is asked for, or with status 404."""
+        """Answers with the file of the page that is asked for, or with status 404, unless `name_asked` has refused the request."""
         name = self.name_asked(default="index.html")
         if name is None:
             return
@@ -83,7 +83,7 @@ class Handler(http.server.BaseHTTPRequestHandler):
 
     def do_job(self):
         """Does the job that is asked for, and answers with its result in JSON. Refuses a request from another page, with status 403, one for a job
-        that does not exist, with 404, and one whose body `read_object` refuses."""
+        that does not exist, with 404, and what `name_asked` and `read_object` refuse."""
         name = self.name_asked(default="")
         if name is None:
             return
@@ -114,7 +114,8 @@ class Handler(http.server.BaseHTTPRequestHandler):
         return name or default
 
     def read_object(self):
-        """Reads the object that was sent. If its length is missing or too large, or it is no object in JSON, refuses the request and returns None."""
+        """Reads the object that was sent. If its length is missing or too large, or it is not sent as JSON or is no object, refuses the request and
+        returns None."""
         length = self.headers.get("Content-Length", "")
         if not length.isascii() or not length.isdigit() or "Transfer-Encoding" in self.headers:
             self.refuse(http.HTTPStatus.LENGTH_REQUIRED)

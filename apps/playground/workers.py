@@ -146,7 +146,7 @@ class Workers:
         return whole
 
     def refill(self):
-        """Starts a process ahead of the next job, in place of one that was ended."""
+        """Starts a process ahead of the next job, in place of one that was ended, unless `spare` processes are idle."""
         with self.lock:
             if len(self.idle) < self.spare:
                 self.idle.append(Worker(self.wanted, self.seconds))

@@ -1,7 +1,7 @@
 #!/bin/sh
 # A build cache of three teams with twelve people and robots: from keys of SSH to answers. Each team has a lead, two developers and a robot.
 # The cache's list has the leads. A lead lets the developers of the team read and write, and says who they are; a robot may only write.
-# Ann works for two teams. Needs spki-cert and ssh-keygen in the path. Usage: examples/builds/story.sh FOLDER, which is empty
+# Ann works for two teams, and Ian for none. Needs spki-cert and ssh-keygen in the path. Usage: examples/builds/story.sh FOLDER, which is empty
 set -eu
 cd "$1"
 mkdir certs

@@ -53,8 +53,8 @@ static void sip_add(struct sip *sip, const void *octets, size_t length)
     }
 }
 
-/* The hash by `secret` of a key and a nonce. It is never 0, which is a free place. An octet 00 is between key and nonce: no canonical text of a key
- * ends with it, so no two pairs make the same octets. */
+/* The hash by `secret` of a key and a nonce. It is never 0, which is a free place. An octet 00 is between key and nonce: a nonce has no such
+ * octet, so no two pairs make the same octets. */
 static uint64_t hash_of(const uint64_t secret[2], struct spki_text key, struct spki_text nonce)
 {
     /* (the constants are those of SipHash: the octets of `somepseudorandomlygeneratedbytes`) */

@@ -336,7 +336,7 @@ static bool is_token(struct spki_text text)
     return text.length > 0;
 }
 
-/* Whether a target is a path, perhaps with a query, of visible characters. */
+/* Whether a target is a path, perhaps with a query, of visible characters of ASCII without `#`. */
 static bool is_target(struct spki_text target)
 {
     const unsigned char *octets = target.octets;

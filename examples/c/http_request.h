@@ -38,7 +38,8 @@ struct http_service {
 };
 
 /* The key that has signed a request, in canonical form, the certificates that the request shows, as a question has them, which are lent by the
- * request, and the digest of the body by SHA-256 or SHA-512, whose length is 0 if there is no body. Whoever reads the body compares it. */
+ * request, and the digest of the body by SHA-256 or SHA-512. Its length is 0 if none is signed: then there must be no body. Whoever reads
+ * the body compares it. */
 struct http_proof {
     unsigned char key[VERIFY_MOST_OCTETS], digest[64];
     size_t key_length, digest_length;

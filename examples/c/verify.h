@@ -7,7 +7,7 @@
  *
  * Key and value must have exactly these forms: a key in another form is another key. Points and numbers are tested before a library gets them,
  * as docs/FORMATS.md, "What a verifier tests first", has it: libraries differ in what they take, and some end the process. So both files
- * accept the same. Below `verifies` is what they share. */
+ * accept the same. What they share is the last part of this file. */
 #ifndef VERIFY_H
 #define VERIFY_H
 

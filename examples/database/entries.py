@@ -53,8 +53,8 @@ def guard_of(texts, policy=spki.Policy.STRICT, limits=LIMITS):
 
 
 class Service:
-    """Answers questions by the entries of `store`: an object whose method `found` returns the number and the text of each entry that it finds by the
-    digests of a key, as `digests_of` returns them. `spki_store_tool.tables.Store` is one."""
+    """Answers questions by the entries of `store`: an object whose method `entries_for` returns the number and the text of each entry that it finds
+    by the digests of a key, as `digests_of` returns them. `spki_store_tool.tables.Store` is one."""
 
     def __init__(self, store, policy=spki.Policy.STRICT, limits=LIMITS):
         self.store, self.policy, self.limits = store, policy, limits

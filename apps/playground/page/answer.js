@@ -125,8 +125,8 @@ export class Answer {
     return htmlElement("li", { class: isFirst ? "first" : "", "data-kind": answer.kind }, htmlElement("p", {}, reason.says), hint, line);
   }
 
-  /** Lists the rights that remain of the entries, each with who holds it. Hides the list if the answer has no field `rights` yet. A right with the
-    * field `before` is that in front of the certificate that stops the chain, so it is none at the end. */
+  /** Lists the rights that remain of the entries, each with who holds it. Hides the list if the answer has no field `rights` yet. A right whose
+    * field `before` is not 0 is that in front of the certificate of this number, which stops the chain, so it is none at the end. */
   showRights(answer) {
     const rights = answer.rights ?? [];
     byId("rights-card").hidden = !answer.rights;

@@ -7,7 +7,7 @@ const GAP = 10, LINE = 17, PAD = 10, SHAFT = 22, BESIDE = 42;
 // The most lines of a text beside an arrow, of one that says why the chain stops, and of the label of a box; and the letters of any text. What is
 // more ends in dots.
 const MOST_LINES = 3, MOST_LINES_OF_STOP = 40, MOST_LINES_OF_LABEL = 12, MOST_LETTERS = 1200;
-// The fonts of a box's name, of other text, of S-expressions, and of the cause that stops a chain.
+// The fonts of a box's name, of other text, of S-expressions, and of the line that says why a chain ends or stops.
 const FONTS = { name: "600 13px", plain: "13px", mono: "12px", why: "650 13px" };
 const measuring = document.createElement("canvas").getContext("2d");
 

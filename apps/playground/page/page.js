@@ -41,8 +41,8 @@ function question() {
     labels: boxes.labels.value, refused: answer.refused, strict: byId("strict").checked, withCase: byId("text-card").open };
 }
 
-/** Shows an answer of the server. If it decides or refuses the question in boxes, it is then asked at which times the answer is yes. Otherwise the
- * scale of time is hidden. */
+/** Shows an answer of the server. If it decides or refuses the question in boxes, the server is then asked at which times the answer is yes.
+ * Otherwise the scale of time is hidden. */
 function showAnswer(reply) {
   answer.show(reply);
   if (reply.kind && chosen === "question") {

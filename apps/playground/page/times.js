@@ -5,7 +5,7 @@ import { markAsNew } from "./state.js";
 
 // The seconds of a day, and the steps of the slider.
 const DAY = 86400, STEPS = 1000;
-// The seconds of the first and the last moment of a calendar.
+// The first and the last moment that the scale may show, in seconds from 1970: their years have four digits.
 const FIRST = Date.UTC(1000, 0, 1) / 1000, LAST = Date.UTC(9999, 11, 31, 23, 59, 59) / 1000;
 
 /** The seconds from 1970 to a moment in UTC: `YYYY-MM-DD HH:MM:SS`, also with `T` for the space or without seconds. A date that the calendar does not

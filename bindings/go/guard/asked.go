@@ -114,9 +114,9 @@ func (a *Asked) signature(place int, key []byte) (Signature, error) {
 	return signature(handle, place, key)
 }
 
-// Mark says that the signature at this place, from 0, is valid. A signature that is not marked is not valid. A mark is for its place alone, also
-// if the same signature is there twice, and it cannot be taken back. The error is ErrMisused if there is no such place, and ErrClosed after Close.
-// Nothing is marked then.
+// Mark says that the signature at this place, from 0, is valid. A signature that is not marked counts as not valid. A mark is for its place alone,
+// also if the same signature is there twice, and it cannot be taken back. The error is ErrMisused if there is no such place, and ErrClosed after
+// Close. Nothing is marked then.
 func (a *Asked) Mark(place int) error {
 	handle, err := a.lock()
 	if err != nil {

@@ -167,7 +167,8 @@ func (g *Guard) Decide(question Question, verify Verify) (Decision, error) {
 	return g.decideAndLog(question, func() (Decision, error) { return g.decide(&question, verify) })
 }
 
-// decideAndLog returns what the function `decide` returns. If the guard is Logged, the function of the log gets that first, as an Event.
+// decideAndLog returns what the function `decide` returns. If the guard is Logged, it calls the function of the log with that, as an Event, before it
+// returns.
 func (g *Guard) decideAndLog(question Question, decide func() (Decision, error)) (Decision, error) {
 	if g.log == nil {
 		return decide()

@@ -360,8 +360,9 @@ func TestNothingIsVerifiedInVain(t *testing.T) {
 	}
 }
 
-// TestSignaturesAreOfTheSequence asks with other keys, requests, times and lists. Which signatures are listed depends on the sequence alone. Verified
-// relies on that: it uses the places of one question in others with the same sequence. The changes of a question add up from turn to turn.
+// TestSignaturesAreOfTheSequence asks with other keys, requests, times and lists. Under one policy, which signatures are listed depends on the
+// sequence alone. Verified relies on that: it uses the places of one question in others with the same sequence. The changes of a question add up from
+// turn to turn.
 func TestSignaturesAreOfTheSequence(t *testing.T) {
 	otherDigest := strings.Replace(forB, "#d7", "#d8", 1) // (a signature for the hash of no certificate)
 	for _, text := range []string{forB, forB + forB, forB + otherDigest + forB, "(public-key (test c)) " + forB} {
@@ -422,8 +423,8 @@ func TestStringsAreStrings(t *testing.T) {
 	}
 }
 
-// TestRequestAndTimeAsTexts gives the request and the time as texts. The second request is `(ftp)` in transport form. The entry grants `(ftp host)`
-// alone.
+// TestRequestAndTimeAsTexts gives the request and the time as texts. The second request is `(ftp)` in transport form. Of the three, the entry grants
+// `(ftp host)` alone.
 func TestRequestAndTimeAsTexts(t *testing.T) {
 	opened := openGuard(t, "(acl (entry (public-key (test b)) (tag (ftp host))))")
 	for text, wanted := range map[string]bool{"(ftp host)": true, "{KDM6ZnRwKQ==}": false, "ftp": false} {
@@ -436,8 +437,8 @@ func TestRequestAndTimeAsTexts(t *testing.T) {
 	}
 }
 
-// TestRefusals spoils one part of a question at a time, and then the access list. Each is a refusal. A row has the line of a question's refusal as its
-// key. The time of BadDate is in the year 36812.
+// TestRefusals spoils one part of a question at a time, and then the access list. Each is a refusal. A row has the line of a question's refusal as
+// its key. The time of BadDate is in the year 36812.
 func TestRefusals(t *testing.T) {
 	opened := openGuard(t, list)
 	for line, change := range map[string]func(*guard.Question){
@@ -482,8 +483,9 @@ func TestTwoWaysAreMisuse(t *testing.T) {
 	}
 }
 
-// TestUsualLimits exceeds the usual limits of 16 certificates, 64 words and 65,536 octets, which one word of `long` has. The highest limits allow
-// more. A limit above the highest, as 1,048,577 octets, and a policy that does not exist are ErrMisused.
+// TestUsualLimits exceeds each usual limit: 16 certificates, 64 words, and 65,536 octets of all texts, which the word of `long` has alone. Questions
+// at the first two limits are not refused. The highest limits allow more. A limit above the highest, as 1,048,577 octets, and a policy that does not
+// exist are ErrMisused.
 func TestUsualLimits(t *testing.T) {
 	opened := openGuard(t, list)
 	many, words, long := questionWith(17), questionWith(1), questionWith(1)
@@ -586,8 +588,9 @@ func TestLimitsBelowZero(t *testing.T) {
 	}
 }
 
-// TestAClockThatFailed asks at times that no clock gives: before 1970, and from the year 10000 on, which begins at 253,402,300,800. An expired right
-// is not granted. Each time has a nanosecond more, so that none is the zero Time, which would say that no time is given.
+// TestAClockThatFailed asks at times that no clock gives: before 1970, and from the year 10000 on, which begins at 253,402,300,800. They are
+// refused, so none brings back the right that ended in 1999. The nanosecond in each does not count. The first second of 1970 and the last nanosecond
+// of the year 9999 are times like others.
 func TestAClockThatFailed(t *testing.T) {
 	opened := openGuard(t, `(acl (entry (public-key (test b)) (tag (*)) (not-after "1999-12-31_23:59:59")))`)
 	question := questionWith(0)
@@ -839,8 +842,8 @@ func TestForms(t *testing.T) {
 	}
 }
 
-// TestTooLongTextNeedsNoLongBuffer converts a text of 16 MiB, which is refused. The buffer of an answer does not grow with it: the text is copied
-// once from the string, and the longest answer to a text within the limit has 3 MiB.
+// TestTooLongTextNeedsNoLongBuffer converts a text of 16 MiB, which is refused. The buffer of an answer does not grow with it, and has little more
+// than 3 MiB: three times the longest text within the limit. The other 16 MiB are the copy of the string.
 func TestTooLongTextNeedsNoLongBuffer(t *testing.T) {
 	tooLong := strings.Repeat(" ", 16<<20)
 	var before, after runtime.MemStats

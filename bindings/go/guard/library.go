@@ -198,7 +198,8 @@ func decideVerified(guard guardHandle, question *Question, listed, valid int) (D
 	return decisionIn(&result)
 }
 
-// decisionIn returns the decision that a call has made, or the error if its status is neither SPKI_YES nor SPKI_NO.
+// decisionIn returns the decision that a call has made, or the error if its status is neither SPKI_YES nor SPKI_NO, or if decisionOf refuses the line
+// of a yes.
 func decisionIn(result *C.struct_library_result) (Decision, error) {
 	switch result.status {
 	case C.SPKI_YES:

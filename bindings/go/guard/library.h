@@ -3,7 +3,7 @@
 #include <spki.h>
 #include <stdlib.h>
 
-/* A request of at most LIBRARY_FEW_WORDS strings needs no allocation. Each decision and each refusal fits in LIBRARY_LINE octets. */
+/* The list of at most LIBRARY_FEW_WORDS strings of a request needs no allocation. Each decision and each refusal fits in LIBRARY_LINE octets. */
 enum { LIBRARY_FEW_WORDS = 64, LIBRARY_LINE = 128 };
 
 /* What a call returns. It is returned as a value, since Go would have to allocate what C writes to through a pointer. `guard` or `asked` is what was

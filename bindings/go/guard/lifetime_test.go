@@ -13,7 +13,7 @@ import (
 )
 
 // TestClose closes a guard before its question, and both twice. The question stays open after its guard. A call on a guard or a question that is
-// closed is ErrClosed.
+// closed is ErrClosed, or returns 0 or false if it has no error.
 func TestClose(t *testing.T) {
 	opened := openGuard(t, list)
 	asked := askAndMark(t, opened, questionWith(1))
@@ -38,8 +38,8 @@ func TestClose(t *testing.T) {
 	expectUnlisted(t, asked)
 }
 
-// TestCloseOfNoSignatures closes a question that lists no signature. Before Close its list is empty, which is no error. After Close each call is
-// ErrClosed, although there is no signature to copy.
+// TestCloseOfNoSignatures closes a question that lists no signature. Before Close its list is empty, which is no error. After Close, Each and
+// Verify are ErrClosed, although there is no signature to copy.
 func TestCloseOfNoSignatures(t *testing.T) {
 	asked := askAndMark(t, openGuard(t, list), questionWith(0))
 	if listed := asked.Signatures(); listed == nil || len(listed) != 0 || asked.Verify(acceptAll) != nil {
@@ -65,7 +65,7 @@ func expectUnlisted(t *testing.T, asked *guard.Asked) {
 }
 
 // TestCopies copies a guard and a question by value and drops the originals. The collector must free nothing while a copy is left: it runs twice
-// in each of 20 turns, since finalizers run later. Closing one copy closes all of them, and each may be closed again.
+// in each of 20 turns, since the finalizer of what one run finds is called later. Closing one copy closes all of them, and each may be closed again.
 func TestCopies(t *testing.T) {
 	openCopies := func() (guard.Guard, guard.Asked) {
 		opened, err := guard.Open([]byte(list), guard.Strict, guard.Limits{})

@@ -2,8 +2,9 @@
 
 package guard
 
-// A Verified is a sequence whose signatures were marked as valid in a question. It has the sequence, so what was verified for one client does not
-// count for what another one shows. Only Asked.Verified makes one with marks. The zero Verified is the sequence without certificates.
+// A Verified is a sequence of which the first signatures, or all or none, were marked as valid in a question. It has the sequence, so what was
+// verified for one client does not count for what another one shows. Only Asked.Verified makes one with marks. The zero Verified is the sequence
+// without certificates.
 type Verified struct {
 	sequence []byte
 	policy   Policy
@@ -15,8 +16,8 @@ type Verified struct {
 var noCertificates = []byte("(8:sequence)")
 
 // Verified returns the sequence of a question with the marks that were set in order: the first signature, then the second, and so on. A mark that was
-// set before that of an earlier place is left out, with all behind it. So a service need not verify a sequence again that it is shown again. Verified
-// may be called after Close too. That of the zero Asked is the zero Verified.
+// set before that of an earlier place, and not once more after it, is left out, with all behind it. So a service need not verify a sequence again
+// that it is shown again. Verified may be called after Close too. That of the zero Asked is the zero Verified.
 func (a *Asked) Verified() Verified {
 	if a.shared == nil {
 		return Verified{}
@@ -52,7 +53,8 @@ func (v Verified) First(most int) Verified {
 }
 
 // Canonical returns the same marks with the sequence in canonical form, which a guard reads in three quarters of the time. The conversion takes as
-// long as a decision. The error is a *Refusal if an allocation failed.
+// long as a decision. The canonical form may have more octets, and so exceed a limit that the sequence as it was shown does not. The error is a
+// *Refusal if an allocation failed.
 func (v Verified) Canonical() (Verified, error) {
 	canonical, err := Canonical(v.text())
 	if err != nil {

@@ -141,7 +141,7 @@ func mustDecode(t testing.TB, text string) []byte {
 }
 
 // The examples of RFC 9421: appendix B.2.6, the request whose signature is signatureRFC by the private key of B.1.4, and B.2.4, the signed text
-// responseRFC, whose signature is curveSignatureRFC by the public key curveRFC of B.1.3. Keys and signatures are in base64.
+// responseRFC, whose signature curveSignatureRFC is valid by the public key curveRFC of B.1.3. Keys and signatures are in base64.
 const (
 	privateRFC   = "MC4CAQAwBQYDK2VwBCIEIJ+DYvh6SEqVTm50DFtMDoQikTmiCqirVv9mWG9qfSnF"
 	signatureRFC = "wqcAqbmYJ2ji2glfAMaRy4gruYYnx2nEFN2HN6jrnDnQCK1u02Gb04v9EDgwUPiu4A0w6vuQv5lIp5WPpBKRCw=="
@@ -214,7 +214,7 @@ func signers(t testing.TB) map[string]*Signer {
 }
 
 // serverOfHashes returns a server that answers a request with the hash of the key that it proves, and sets `body` to its body, of at most 100 octets.
-// A request that proves no key gets the status 401.
+// A request that proves no key, or whose body Proof.Body refuses, gets the status 401.
 func serverOfHashes(verifier *Verifier, body *[]byte) *httptest.Server {
 	return httptest.NewServer(http.HandlerFunc(func(answer http.ResponseWriter, request *http.Request) {
 		proof, err := verifier.Request(request)
@@ -498,7 +498,8 @@ func TestBody(t *testing.T) {
 // An ofUnknownLength is a body whose length net/http does not know, so that HTTP/2 sends no Content-Length.
 type ofUnknownLength struct{ io.Reader }
 
-// serverByHTTP2 returns a server that answers by HTTP/2 with the protocol, and with the verifier's error for the request or its body, or `<nil>`.
+// serverByHTTP2 returns a server that answers by HTTP/2 with the protocol, and with the verifier's error for the request or its body, or `<nil>`. It
+// makes the address of the server the only name of the verifier.
 func serverByHTTP2(verifier *Verifier) *httptest.Server {
 	server := httptest.NewUnstartedServer(http.HandlerFunc(func(answer http.ResponseWriter, request *http.Request) {
 		proof, err := verifier.Request(request)

@@ -24,7 +24,7 @@ const (
 	mostDigits     = 15
 )
 
-// The derived components: those that are no fields.
+// The derived components, which are no fields, that a signature may cover.
 const (
 	method    = "@method"
 	authority = "@authority"
@@ -38,7 +38,7 @@ const publicKey = "x-spki-public-key"
 
 // An input is the value of `Signature-Input`. The times are in seconds since 1970.
 type input struct {
-	// The value of `@signature-params`: what follows the label, as it was sent.
+	// The value of `@signature-params`: what follows `spki=`, as it was sent.
 	text             string
 	components       []string
 	created, expires int64

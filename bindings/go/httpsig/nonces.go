@@ -10,7 +10,7 @@ import (
 // Nonces keeps which nonces were used. Several services may share one.
 type Nonces interface {
 	// Take returns nil if this nonce of this key was not used before, and keeps it for `seconds` from `now`, which is in seconds since 1970. If it
-	// was used, it returns NonceSeen. With any other error it is not known whether it was, and the request proves no key either.
+	// was used, it returns NonceSeen. Any other error does not say whether it was, and the request proves no key either.
 	Take(key []byte, nonce string, now, seconds int64) error
 }
 

@@ -59,9 +59,9 @@ type Proof struct {
 	// The key, and the certificates that the request shows, as a guard.Question has them.
 	Key      spki.ProvenKey
 	Sequence []byte
-	// What Take uses up, and what Body compares a body with.
+	// What Take uses up.
 	nonce string
-	// The second since 1970 from which the signature is not accepted.
+	// The second since 1970 from which the signature is not accepted, and what Body compares a body with.
 	expires int64
 	digest  digest
 }
@@ -203,8 +203,8 @@ func signatureOf(header http.Header) (*input, []byte, error) {
 	return input, octets, err
 }
 
-// checkParameters returns the refusal of the tag, of the length of the nonce or of the times, or nil. The signature must not precede the start of the
-// service, neither by the clock as it was set then, nor as it is set now.
+// checkParameters returns the refusal of the tag, of the length of the nonce or of the times, or nil. Unless v.Start is zero, the signature must not
+// precede the start of the service, neither by the clock as it was set then, nor as it is set now.
 func (v *Verifier) checkParameters(input *input) error {
 	moment := v.Now()
 	now := moment.Unix()

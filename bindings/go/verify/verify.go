@@ -22,8 +22,8 @@ import (
 	"conguraki/spki"
 )
 
-// Signature says whether a signature is valid: by Ed25519, by RSA with PKCS#1 v1.5, or by ECDSA. A key or a value of another form has no valid
-// signature. It is a guard.Verify.
+// Signature says whether a signature is valid: by Ed25519, by RSA with PKCS#1 v1.5, or by ECDSA. It returns false for a key or a value of another
+// form, and for an empty message. It is a guard.Verify.
 func Signature(signed spki.Signature) bool {
 	return signature(signed, pkcs1v15)
 }
