@@ -255,8 +255,8 @@ def reduce(case: Case, rows: list[Row]) -> Answer:
 
 
 def entry_lines(command: str, case: Case, rows: list[Row], text_of: Callable[[Authorization], bytes], is_good: Callable[[bytes], bool]) -> Answer:
-    """The line of each entry: `text_of` its authorization, or where its chain stops. YES if `is_good` is true of one such text, else NO. Where the
-    evidence fails there is one line, about the certificate. `command` is the word in a refusal's row. Raises Refused if tags are too large."""
+    """The line of each entry: `text_of` its authorization, or where its chain stops. YES if `is_good` is true of one such text, else NO. If evidence
+    fails or there is no entry, one line says so. `command` is the word in a refusal's row. Raises Refused if tags are too large."""
     try:
         steps = evidence.proved_tuples(case.items, rows, case.strict)
     except evidence.Stopped as stopped:
