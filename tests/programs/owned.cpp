@@ -150,7 +150,7 @@ static int impossible_requests()
     return 0;
 }
 
-// A guard or question that was moved away counts 0 entries or signatures. Other calls are misuse, but the question decides no. A key keeps its text.
+// A moved guard counts 0 entries, a moved question 0 signatures, and it decides no. All else but verifying is misuse. A moved key keeps its text.
 static int moved_handles()
 {
     spki::guard guard(list);

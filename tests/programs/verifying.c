@@ -9,7 +9,7 @@
 #include <sys/wait.h>
 #include <unistd.h>
 
-/* Fewer signatures than these are verified. */
+/* There must be fewer signatures. */
 enum { MOST = 65536 };
 
 static struct spki_text strings[3 * MOST];

@@ -139,8 +139,8 @@ def sizes():
 
 
 def long_lists():
-    """Yields (name, text, what `check` answers): lists of eight entries that do not grant, all for one reason, and of a ninth, which may. (From eight
-    entries on an earlier version decided in another way.)"""
+    """Yields (name, text, what `check` answers): lists of eight entries that do not grant, all for one reason, and of one or two more, which may.
+    (From eight entries on an earlier version decided in another way.)"""
     rows, items = chain()
     ninth = (0, "yes entry 9\n")
     over = '(not-after "2023-12-31_23:59:59")'
@@ -294,7 +294,7 @@ def explained():
 
 
 def explained_windows():
-    """Yields (name, text, what `reduce` answers, what `explain` answers): cases in which a window of time decides, or comes last of three reasons."""
+    """Yields (name, text, what `reduce` answers, what `explain` answers): cases in which a window decides, or is the last of three reasons."""
     a, b, c = key("a"), key("b"), key("c")
     alone = f"(entry {a} (tag (*)) (not-after \"2024-12-31_23:59:59\"))"
     lacks = 1, "entry 1 WindowLacks\n"
