@@ -85,7 +85,7 @@ def refusal(row: str, words: object) -> Refused:
 
 
 def too_large(command: str, why: TooLarge) -> Refused:
-    """The Refused to raise where a tag is too large. Its row in REFUSALS says whether a guard's lower limit is the cause."""
+    """The Refused to raise where a product of nodes or the work is too large. Its row in REFUSALS says whether a guard's lower limit is the cause."""
     limit = "work" if why.is_work else "product"
     return refusal(f"TooLarge: {command}" + (f", by a guard's {limit}" if why.is_of_guard else ""), "TooLarge")
 

@@ -123,7 +123,7 @@ def of_separate_rows() -> Iterator[CallRow]:
 
 def of_revoked_keys() -> Iterator[CallRow]:
     """What `decide_unrevoked` says to KB, and `answer_both` to KB and to KA, if KA delegates its right to KB and keys are revoked. The chain ends
-    at KB, so the answer to KA is no. KB has signed nothing, so revoking it changes nothing. `answer_both` has a request of its own."""
+    at KB, so the answer to KA is no. KB has signed nothing, so revoking it changes nothing. `answer_both` has a request and moment of its own."""
     text = case(entry("a"), row(C1, KA), signed(C1, KA))
     parts, rows = parts_of(text)[:5], rows_of(text)  # (list, sequence, key, request, moment)
     ka, kb = canonical(KA), canonical(KB)
