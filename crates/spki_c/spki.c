@@ -1,7 +1,7 @@
-/* The functions that `spki.h` declares. Each passes its arguments on to a function of the proved library. That accepts each text as the
- * caller gives it, and refuses a null pointer with a length, and a length that is more than memory can have. All other pointers are tested
- * here: a null pointer is misuse, or is replaced by the address of a value that is not used. BEGIN_ANSWER prepares the buffer, and is false
- * if that is misuse. READ copies a caller's structure, which may be of another version, and is false if it cannot (structures.h). */
+/* The functions that `spki.h` declares. Each but spki_version passes its arguments on to a function of the proved library. That accepts each text as
+ * the caller gives it, and refuses a null pointer with a length, and a length that is more than memory can have. All other pointers are tested here:
+ * null is misuse, or nothing is done and the result is 0, or an unused value takes its place. BEGIN_ANSWER prepares the buffer, and is false if that
+ * is misuse. READ copies a caller's structure, which may be of another version, and is false if it cannot (structures.h). */
 #include "spki.h"
 #include "structures.h"
 

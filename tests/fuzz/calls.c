@@ -395,7 +395,7 @@ static void decide(struct input *in, const struct parts *parts, spki_asked *aske
     free(decision.octets);
 }
 
-/* Asks a guard the question of these parts, closes the guard, overwrites the texts of the question, which are copies, and then decides it. */
+/* Asks a guard the question of these parts, overwrites the texts of the question, which are copies, closes the guard, and then decides it. */
 static void ask(struct input *in, const struct parts *parts, spki_guard *guard, enum spki_policy policy)
 {
     static struct parts copy;

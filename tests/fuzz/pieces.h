@@ -19,7 +19,7 @@ struct input {
     size_t left;
 };
 
-/* A text in canonical form. What has no room is left out. */
+/* A text, which is made in canonical form. What has no room is left out. */
 struct text {
     size_t length;
     unsigned char octets[MOST_OCTETS];

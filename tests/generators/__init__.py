@@ -3,7 +3,7 @@
 | Module | Makes |
 |---|---|
 | `spellings` | texts of a value in all three forms, with every way to write a string |
-| `mutations` | values and texts that differ a little from a given one |
+| `mutations`, `nearly` | values and texts that differ a little from a given one, always or by chance |
 | `tags` | tags and requests that belong together, or nearly |
 | `cases` | cases with a chain of certificates, most of which join |
 | `guards` | questions to a guard, also with calls that are misuse |

@@ -211,7 +211,7 @@ def changed_list(old: tuple[Value, ...], rng: random.Random) -> Value:
 
 
 def changed_octets(text: bytes, rng: random.Random) -> bytes:
-    """A text in which one octet is changed, dropped, doubled, put in or swapped with the next one."""
+    """A text in which one octet is changed, dropped, doubled, put in or swapped with the next one, or by chance none."""
     at = rng.randrange(len(text) + 1)
     before, old, rest, new = text[:at], text[at:at + 1], text[at + 1:], bytes([rng.choice(OCTETS)])
     return before + rng.choice((new + rest, rest, 2 * old + rest, new + old + rest, rest[:1] + old + rest[1:]))

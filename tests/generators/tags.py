@@ -124,7 +124,7 @@ def changed_request(old: Value, rng: random.Random) -> Value:
 
 
 def request_near(tag: Tag, rng: random.Random) -> Value:
-    """A request that a tag contains, or nearly. If the head of a list comes out as `*`, which no request has, it is that string alone."""
+    """A request that a tag contains, or nearly; any for `(* set)`. If the head of a list comes out as `*`, it is that string alone."""
     if isinstance(tag, Text):
         return Atom(near(tag.body, rng))
     if isinstance(tag, AnyOf) and tag.members:

@@ -85,7 +85,7 @@ def refusal(row: str, words: object) -> Refused:
 
 
 def too_large(command: str, why: TooLarge) -> Refused:
-    """The Refused to raise where a tag is too large. Its row in REFUSALS says whether a guard's lower limit is the cause."""
+    """The Refused to raise where a product of nodes or the work is too large. Its row in REFUSALS says whether a guard's lower limit is the cause."""
     limit = "work" if why.is_work else "product"
     return refusal(f"TooLarge: {command}" + (f", by a guard's {limit}" if why.is_of_guard else ""), "TooLarge")
 
@@ -255,8 +255,8 @@ def reduce(case: Case, rows: list[Row]) -> Answer:
 
 
 def entry_lines(command: str, case: Case, rows: list[Row], text_of: Callable[[Authorization], bytes], is_good: Callable[[bytes], bool]) -> Answer:
-    """The line of each entry: `text_of` its authorization, or where its chain stops. YES if `is_good` is true of one such text, else NO. Where the
-    evidence fails there is one line, about the certificate. `command` is the word in a refusal's row. Raises Refused if tags are too large."""
+    """The line of each entry: `text_of` its authorization, or where its chain stops. YES if `is_good` is true of one such text, else NO. If evidence
+    fails or there is no entry, one line says so. `command` is the word in a refusal's row. Raises Refused if tags are too large."""
     try:
         steps = evidence.proved_tuples(case.items, rows, case.strict)
     except evidence.Stopped as stopped:

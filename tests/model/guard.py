@@ -240,7 +240,7 @@ def last_second(date: bytes) -> int:
 
 
 def compare_with_check(case: Case, decided: Answer) -> None:
-    """Raises ModelDisagrees unless the guard's decision is that of `check`, or `check` is refused as TooLarge: it runs within the guard's limits."""
+    """Raises ModelDisagrees unless the guard's decision is that of `check`, or `check` is refused as TooLarge by the guard's limit of nodes."""
     try:
         checked = answers.check(case, case.rows)
     except Refused:

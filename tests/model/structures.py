@@ -1,6 +1,6 @@
 """Keys, hashes, names, dates, entries, certificates, sequences (section "Keys, hashes, dates, entries, certificates").
 
-Each reader takes a value, and returns the structure that it is or raises StructureFault, the first fault in reading order."""
+Each reader takes a value, and returns the structure that it is or raises its first fault in reading order: StructureFault, or ItemFault for items."""
 import hashlib
 import re
 from collections.abc import Callable, Iterable
@@ -261,7 +261,7 @@ def read_date(value: Value) -> bytes:
 
 
 def why_no_date(value: Value) -> str:
-    """Why a value is no date, as in a row of PLACES: it has another form, or the name of the first number that is out of its range."""
+    """Why a value is no date, as in a row of PLACES: a list, a hint, another form, or the name of the first number that is out of its range."""
     if not isinstance(value, Atom) or value.hint is not None:
         return "a hint" if isinstance(value, Atom) else "a list"
     numbers = re.fullmatch(rb"[0-9]{4}-([0-9]{2})-([0-9]{2})_([0-9]{2}):([0-9]{2}):([0-9]{2})", value.body)
@@ -401,7 +401,7 @@ def read_entry(value: Value) -> Entry:
 
 
 def read_access_list(value: Value) -> list[Entry]:
-    """Reads `(acl version? entry*)`. Raises ItemFault for an entry, by its number from 1, and for the version, by 0."""
+    """Reads `(acl version? entry*)`. Raises ItemFault for an entry, by its number from 1, or the version, by 0, and Shape for another head."""
     entries = Members(value, b"acl").left
     if entries and head_of(entries[0]) == b"version":
         read_numbered(0, read_version, entries[0])
@@ -461,7 +461,7 @@ def read_operation(value: Value) -> Operation:
 
 
 def read_sequence(value: Value) -> list[Item]:
-    """Reads `(sequence item*)`. Behind each certificate must be its signature, with only `(do ..)` between. Raises ItemFault for an item."""
+    """Reads `(sequence item*)`. Behind a certificate must be its signature, only `(do ..)` between. Raises ItemFault, or Shape for another head."""
     items: list[Item] = []
     # the number of the certificate whose signature is still to come, or 0
     unsigned = 0

@@ -1,4 +1,4 @@
-/* Gives spki.c structures of other headers: with up to MORE fields more than the library's, and with one less. LATER is the header that spki.c is
+/* Gives spki.c structures of other headers: with up to MORE fields more than in 0.2.0, and with one less. LATER is the header that spki.c is
  * compiled with: 0 for spki.h, 1 for one whose structures have a field `later` at their ends. What the proved library would be given is kept here.
  * Prints the line of what is wrong, and ends with 1 then. */
 #include "spki.c"

@@ -1,5 +1,5 @@
 /* Shows that the header is C11 and C++17, and that a program links with the library; with OTHER, also with a second copy of it whose
- * calls begin with `other_`. Ends with the number of the first call that does otherwise than `spki.h` says, or with 0. */
+ * calls begin with `other_`. Ends with the number of the first test that fails, or with 0. */
 #include <spki.h>
 #include <string.h>
 

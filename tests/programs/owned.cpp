@@ -150,7 +150,7 @@ static int impossible_requests()
     return 0;
 }
 
-// A guard or question that was moved away counts 0 entries or signatures, decides no, and refuses other calls as misuse. A moved key keeps its text.
+// A moved guard counts 0 entries, a moved question 0 signatures, and it decides no. All else but verifying is misuse. A moved key keeps its text.
 static int moved_handles()
 {
     spki::guard guard(list);
@@ -207,7 +207,7 @@ static int literals()
     return 0;
 }
 
-// Threads ask one guard and one question, 20 times each, and then each ends a question of its own, while the guard ends: so each counts 21 grants.
+// Threads ask one guard and one question, 20 times each. Then others decide and end one question each, while the guard ends: each count is 21.
 static int threads()
 {
     auto guard = std::make_unique<spki::guard>(list);

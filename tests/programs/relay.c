@@ -1,7 +1,7 @@
 /* Does calls of spki.h for a process on another kind of machine: `relayed.py`. Its memory, lengths and pointers are those of this process.
  *
- * A request is a number of blocks of memory, of each its length and its octets; a number of addresses, of each the block and the place in it
- * that become the address of another block; a call; and its eight arguments, each as whether it is the address of a block, and the number.
+ * A request is a number of blocks of memory, of each its length and its octets; a number of addresses, of each a block, a place in it, and
+ * the block whose address is written there; a call; and its eight arguments, each as whether it is the address of a block, and the number.
  * Call 0 copies octets from an address into block 0. The others are those of `calls`. The answer is what the call returns, and the address and
  * the octets of each block. Numbers are 8 octets, the lowest first, as both machines have them. Ends with the input, or in a request with BROKEN. */
 #include <spki.h>

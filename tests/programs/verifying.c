@@ -1,6 +1,6 @@
 /* Verifies signatures by examples/c/verify_gcrypt.c or verify_openssl.c. Reads strings from standard input, each as LENGTH:OCTETS: a key, a
  * message and the value of a signature, and so on. Writes 1 for each signature that is valid, 0 for each other, and x for one at which the
- * process ended: a child process verifies, and after that another one goes on. Ends with 1 for over MOST, or where a child exits with a fault. */
+ * process ended: a child process verifies, and after that another one goes on. Ends with 1 for MOST or more, or where a child exits with a fault. */
 #define _DEFAULT_SOURCE
 #include "read_string.h"
 #include "verify.h"
@@ -9,7 +9,7 @@
 #include <sys/wait.h>
 #include <unistd.h>
 
-/* The most signatures. */
+/* There must be fewer signatures. */
 enum { MOST = 65536 };
 
 static struct spki_text strings[3 * MOST];

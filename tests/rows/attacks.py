@@ -77,7 +77,7 @@ def attacks_by_headers() -> Iterator[Plain]:
 
 
 def attacks_by_doubled_parts() -> Iterator[Plain]:
-    """Requests in which a header or a whole request comes twice, a line or a length is malformed or too long, or an address is there for the path."""
+    """Requests in which a header or a whole request comes twice, a part is missing, malformed or too long, or an address is there for the path."""
     shown, basic = "Authorization: SPKI {ben}", "Authorization: Basic YW5uOmFubg=="
     yield "two headers with certificates, the first of another scheme", "ben", request(WEB, basic, shown)
     yield "two headers with certificates, the first of others", "ben", request(WEB, "Authorization: SPKI {ended}", shown)
@@ -181,8 +181,8 @@ LEAVING = "/.well-known/spki-chain"
 
 
 def attacks_on_left_certificates() -> Iterator[Plain]:
-    """Requests at LEAVING, where a client leaves certificates (at most 8,192 octets) for later requests. Some web servers pass these on without
-    asking the daemon whether they are allowed. So the daemon must decide no request there, and keep no certificates without a signature."""
+    """Requests at LEAVING, where a client leaves certificates (at most 8,192 octets) for later requests, and at paths like it. Some web servers pass
+    those at LEAVING on without asking the daemon. So the daemon must decide no request there, and keep no certificates without a signature."""
     claims = ("X-Original-Method: GET", f"X-Original-URI: {WEB}", "X-Original-Host: localhost", "X-Forwarded-Method: GET", f"X-Forwarded-Uri: {WEB}",
               "X-Forwarded-Host: localhost", "X-Client-Cert: {ann}")
     for method in ("PUT", "GET", "POST", "DELETE", "HEAD", "OPTIONS", "COPY"):

@@ -13,7 +13,7 @@ commas between them are a row each. Texts and answers are written as in `tables/
                                     `fold_owned` takes the most nodes and the bound on work before them. The answer is an
                                     authorization, or the cause of a stop
     decide, explain, judge ..       a case, and a verifier: rows, or `all`, or `broken`, which is out of memory
-    Guard::read                     a list, its policy, the most octets (or `usual`: the default limits) and nodes
+    Guard::read                     a list, its policy, the most octets (or `usual`: the default limits) and nodes; empty: the greatest
     PreparedQuestion::decide ..     the four texts of `Guard::read`; a sequence, a key, a request, a moment; a verifier or marks
     answer_opened                   the four texts of `Guard::read`; `decide`, `explain` or `reduce`; then questions of five texts each: a
                                     sequence, a key, a request, a moment, marks

@@ -94,7 +94,7 @@ def chain(changed=None, how=None):
 
 
 def chains():
-    """Yields (name, text, what `check` answers): the chain from a by b and c to d, and others that differ from it at one place."""
+    """Yields (name, text, what `check` answers): the chain from a by b and c to d, and others, most of which differ from it at one place."""
     yield "whole chain", case(entry("a"), *chain()), YES
     for place in range(3):
         for how in ("key not shown", "digest differs", "signer differs", "not accepted"):
@@ -139,8 +139,8 @@ def sizes():
 
 
 def long_lists():
-    """Yields (name, text, what `check` answers): lists of eight entries that do not grant, all for one reason, and of a ninth, which may. (From eight
-    entries on an earlier version decided in another way.)"""
+    """Yields (name, text, what `check` answers): lists of eight entries that do not grant, all for one reason, and of one or two more, which may.
+    (From eight entries on an earlier version decided in another way.)"""
     rows, items = chain()
     ninth = (0, "yes entry 9\n")
     over = '(not-after "2023-12-31_23:59:59")'
@@ -191,8 +191,8 @@ def moments():
 
 
 def policies():
-    """Yields (name, text, what `check` answers): cases by both policies. The strict one denies if a hash by SHA-1 is an issuer or a signer (or a
-    subject: see `explained`), and not if it is a message's digest."""
+    """Yields (name, text, what `check` answers): cases, most of them by both policies. The strict one denies if a hash by SHA-1 is an issuer or a
+    signer (or a subject: see `explained`), and not if it is a message's digest."""
     a, b = key("a"), key("b")
     c1 = cert(a, b, "(tag (*))")
     hashed = {alg: cert(digest(a, alg), b, "(tag (*))") for alg in ("sha1", "sha256", "sha512")}
@@ -214,7 +214,7 @@ def policies():
 
 
 def signature_places():
-    """Yields (name, text, what `check` answers): signatures at right and wrong places of a sequence."""
+    """Yields (name, text, what `check` answers): signatures at right and wrong places of a sequence, and operations, known and unknown."""
     a, c1 = key("a"), cert(key("a"), key("b"), "(tag (*))")
     signature = f"(signature {digest(c1)} {a} sig)"
     for items, line in ((signature, "1 StraySignature"), (f"{c1} {a} {signature}", "1 UnsignedCert"), (c1, "1 UnsignedCert"),
@@ -230,7 +230,7 @@ HASH = digest("x")
 
 
 def malformed():
-    """Yields (name, text, what `check` answers): cases refused for a row or a policy, or with several faults, of which the first is named."""
+    """Yields (name, text, what `check` answers): cases with a row or policy, mostly a wrong one, or with several faults: the first is named."""
     faults = [
         ("()", "Shape"), ("x", "Shape"), ("(by)", "Shape"), ("(row)", "Shape"), (f"(by {key('a')})", "Shape"),
         (f"(by {key('a')} {HASH})", "Shape"), (f"(by {key('a')} {HASH} sig sig)", "Shape"), (f"(by a {HASH} sig)", "Shape"),
@@ -294,7 +294,7 @@ def explained():
 
 
 def explained_windows():
-    """Yields (name, text, what `reduce` answers, what `explain` answers): cases in which a window of time decides."""
+    """Yields (name, text, what `reduce` answers, what `explain` answers): cases in which a window decides, or is the last of three reasons."""
     a, b, c = key("a"), key("b"), key("c")
     alone = f"(entry {a} (tag (*)) (not-after \"2024-12-31_23:59:59\"))"
     lacks = 1, "entry 1 WindowLacks\n"

@@ -1,6 +1,6 @@
-"""Rows for `test_one_call`, made by the functions `of_..`: cases with certificates, whose digests are computed, and questions to guards. What guards
-answer is what the model answers to their parts; other answers are worked out by hand from docs/FORMATS.md. The texts of each call are those that
-call_rows.py lists. In a case, `rows` are the signatures that it accepts, and `items` the members of its sequence."""
+"""Rows for `test_one_call`, made by the functions `of_..`: cases with certificates, whose digests are computed, and questions to guards. The answers
+of `of_questions` are those of the model. All others are worked out by hand from docs/FORMATS.md. The texts of each call are those in call_rows.py.
+In a case, `rows` are the signatures that it accepts, and `items` the members of its sequence."""
 import hashlib
 import re
 from collections.abc import Iterator
@@ -20,7 +20,7 @@ NOW = b'"2024-01-01_00:00:00"'
 C1 = cert(KA, KB, "(tag (*))")
 # Entries for KA: one that delegates and contains each request, and one that does not delegate and contains some.
 ALL, HOST = entry("a"), entry("a", "(tag (ftp host))")
-NO_ROWS, NO_LIMITS = b"(8:accepted)", (b"", b"")
+NO_ROWS, NO_LIMITS = b"(8:accepted)", (b"", b"")  # (empty limits of octets and nodes are the greatest ones)
 ENTRY = re.compile(rb"entry \d+ ")
 SHAPES = {"Canonical": lambda text: text, "Advanced": lambda text: printed(forms.read(text)), "Transport": braced}
 
@@ -40,7 +40,7 @@ def signed_wrongly(certificate: str) -> str:
 
 
 def case_by_hash(behind: str, is_changed: bool = False) -> bytes:
-    """A case with a certificate whose issuer is the hash of KA, and the text `behind` it: KA or nothing. `is_changed`: the signed digest is wrong."""
+    """A case with a certificate whose issuer is the hash of KA, and the text `behind` it: a key or none. `is_changed`: the signed digest is wrong."""
     hashed = cert(chains.digest(KA), KB, "(tag (*))")
     return case(ALL, row(hashed, KA), (signed_wrongly(hashed) if is_changed else signed(hashed, KA)) + behind)
 
@@ -123,7 +123,7 @@ def of_separate_rows() -> Iterator[CallRow]:
 
 def of_revoked_keys() -> Iterator[CallRow]:
     """What `decide_unrevoked` says to KB, and `answer_both` to KB and to KA, if KA delegates its right to KB and keys are revoked. The chain ends
-    at KB, so the answer to KA is no. KB has signed nothing, so revoking it changes nothing. `answer_both` has a request of its own."""
+    at KB, so the answer to KA is no. KB has signed nothing, so revoking it changes nothing. `answer_both` has a request and moment of its own."""
     text = case(entry("a"), row(C1, KA), signed(C1, KA))
     parts, rows = parts_of(text)[:5], rows_of(text)  # (list, sequence, key, request, moment)
     ka, kb = canonical(KA), canonical(KB)

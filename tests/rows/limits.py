@@ -120,8 +120,8 @@ def products():
 
 def work():
     """Yields (name, command, text, answer): entries and certificates whose work is 2,300,000,000, the limit, and more. The tags of 23 entries have
-    1,000 nodes each. By the first certificate, whose tag has 4 nodes and 99,904 octets, each costs 32 + 15 * 4 + 4 + 99,904 = 100,000. Then nothing
-    is left of the tags. The second certificate's tag has 336 nodes: the product 1,000 * 4 * 336 is over 1,000,000, up to which no work counts."""
+    1,000 nodes each. By the first certificate, whose tag has 4 nodes and 99,904 octets, each node costs 32 + 15 * 4 + 4 + 99,904 = 100,000. Then
+    nothing is left of the tags. The second one's tag has 336 nodes: the product 1,000 * 4 * 336 is over 1,000,000, up to which no work counts."""
     def chain_of(more, *tags):
         """The rows and the items of the first certificate, whose tag has so many octets more, and of a further one for each of these tags."""
         first = cert(key("a"), key("b"), f"(propagate) (tag (* set r {'x' * 49_951} {'y' * (49_952 + more)}))")

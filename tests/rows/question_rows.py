@@ -1,6 +1,6 @@
 """Rows for `test_one_call` that are made here: parts of questions that are refused, requests by strings, moments in seconds, limits, lists with
 several entries for a key. The answers are worked out by hand from docs/FORMATS.md, the dates by `date -u -d @SECONDS +%F_%T`. The texts of each
-call are those that call_rows.py lists. `b"open", b"", b""` is the open policy without limits of octets and nodes."""
+call are those that call_rows.py lists. `b"open", b"", b""` is the open policy, and the greatest limits of octets and nodes."""
 import hashlib
 from collections.abc import Iterator
 
@@ -34,7 +34,7 @@ PART = {"Acl": "access list", "Sequence": "sequence", "Key": "key", "Request": "
 
 
 def of_refused_parts() -> Iterator[CallRow]:
-    """A case and a guard refuse the same parts for the same faults: those of REFUSED, in advanced and in canonical form."""
+    """A case, in canonical form, and a guard, by texts in advanced and in canonical form, refuse the parts of REFUSED for the same faults."""
     for place, (parts, part, item, kind) in enumerate(REFUSED, 1):
         texts = [octets_of(text) for text in parts]
         case_text = canonical(b"(case %s (accepted) %s (key %s) (request %s) (at %s))" % tuple(texts))
@@ -47,7 +47,7 @@ def of_refused_parts() -> Iterator[CallRow]:
 
 def of_refused_part(place: str, texts: list[bytes], part: str, item: int | None, kind: str) -> Iterator[CallRow]:
     """The rows in which a guard refuses the texts of a list, sequence, key, request and moment, for the fault of one of them: `part`, a key
-    of PART. `item`, the place of its member (None for a request), and `kind` are the fault: a value of Rattle in answers, words in lines."""
+    of PART. `item`, the place of its member (0 for all of it, None for a request), and `kind` are the fault: a value of Rattle or words in a line."""
     fault, message = f"CertFault {{ item: {item}, kind: {kind} }}", f"item {item}: {TEXT_OF[kind]}"
     guard = texts[0], b"open", b"", b""
     words = kind.replace("(", " ").replace(")", "")  # (a fault `Tag(EmptyList)` is `Tag EmptyList` in a line)
@@ -72,7 +72,7 @@ def list_of(tag: bytes, fields: bytes = b"") -> bytes:
 
 def row_by_strings(place: str, listed: bytes, words: tuple[bytes, ...], answer: bytes, seconds: int = 0, octets: bytes = b"") -> CallRow:
     """A row of a question of KA to a guard of the list `listed`, by strings (`words`) and at a moment in seconds since 1970. `octets` is the limit of
-    octets as a number in digits, empty for none."""
+    octets as a number in digits, empty for the greatest limit."""
     return CallRow(f"calls/words:{place}", "Guard::ask", (listed, b"open", octets, b"", A, number(seconds), *words), answer)
 
 
@@ -110,7 +110,7 @@ NO_DATES = (-1, 253_402_300_800, -62_167_219_200, -62_167_219_201, 2**63 - 1, -2
 
 
 def of_seconds() -> Iterator[CallRow]:
-    """Seconds are the moment of their date: an entry of that date grants, and one of another date not. Those below 0 and after 9999 are refused."""
+    """Seconds mean what their date means as a text: an entry of that date grants, another one not. Those below 0 and after 9999 are refused."""
     for seconds, date in DATES.items():
         for limit, answer in ((date, b"Yes(1)"), (b"1971-01-01_00:00:00", b"No")):
             listed = list_of(b"(1:*)", group(string("not-before"), string(limit)) + group(string("not-after"), string(limit)))
@@ -129,7 +129,7 @@ LENGTHS = [((b"a",), 3), ((b"a", b"bc"), 9), ((b"0123456789",), 13), ((b"0123456
 
 
 def of_limits() -> Iterator[CallRow]:
-    """A question of as many octets as may be, and of more; and products of nodes, which do not limit a decision."""
+    """Questions of as many octets as may be, and of more; products of nodes, which do not limit a decision; many strings and certificates."""
     for words, length in LENGTHS:
         whole = 12 + 26 + length + 22  # (the octets of the sequence, the key, the request and the date)
         for octets, answer in ((whole, b"Yes(1)"), (whole - 1, TOO_LONG), (0, TOO_LONG)):
@@ -149,7 +149,7 @@ def of_limits() -> Iterator[CallRow]:
 
 
 def of_counts() -> Iterator[CallRow]:
-    """By the default limits a question may have 16 certificates and 64 strings, also in lists inside the request. Without limits it may have more."""
+    """By the default limits a question may have 16 certificates and 64 strings, also in lists inside the request. Without these it may have more."""
     listed, item = f"(acl (entry {KA} (propagate) (tag (*))))".encode(), signed(cert(KA, KB, "(tag (*))"), KA)
     for count, strings, refusal in ((16, 64, None), (17, 64, "Certificates"), (17, 65, "Certificates"), (16, 65, "Words")):
         question = (f"(sequence {item * count})".encode(), KB.encode(), f"({'a ' * (strings - 2)}(a b))".encode(), NOW)  # (`(a b)` has 2 of them)
