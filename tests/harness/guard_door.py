@@ -16,8 +16,7 @@ from model.calls import DONE, GRANTED, MISUSED, TOO_SMALL
 from model.guard import Parts, Signed, answer
 from model.values import Atom
 
-# octets of a buffer that each line of a refusal fits into
-ROOM = 64
+ROOM = 64  # (octets of a buffer that each line of a refusal fits into)
 # so many structures have more octets than an array can have
 MANY = 2**60
 # a place far past all signatures: the count of those that are listed, at most 16, is added, and the sum must still have 64 bits
