@@ -258,7 +258,7 @@ class Daemons(WithOwnServers):
         root = self.give_certificate(replicas[1])
         self.start_beat(primary.address)
         hosts = ",".join(each.address for each in nodes[:3])
-        self.start_beat(f"host={hosts} user=postgres dbname=postgres target_session_attrs=read-write", *nodes[3].words)  # (to whoever is the primary)
+        self.start_beat(f"host={hosts} user=postgres dbname=postgres target_session_attrs=read-write", *nodes[3].words)  # (to whichever is primary)
         old, near, far = (self.start_daemon("old", primary), self.start_daemon("near", replicas[0]),
                           self.start_daemon("far", replicas[1], *nodes[3].words, host=nodes[2].address, root=root))
         alice, bob = self.people["alice"], self.people["bob"]
@@ -298,7 +298,7 @@ class Daemons(WithOwnServers):
     @needs.needs("ip")
     def test_full_disk_for_entries(self) -> None:
         """The disk of the tables of entries and of changes has 3 MiB. An import that fills it adds the batches that had room, and ends with status 3.
-        A removal then removes nothing, and ends so too. The daemon decides by the entries that are there. On a larger disk the removal succeeds."""
+        Once removals find no room either, they end so too. The daemon decides by the entries that are there. On a larger disk a removal succeeds."""
         primary, room = self.primary(), tempfile.mkdtemp()
         self.addCleanup(os.rmdir, room)
         databases.mount(room, mib=3)
