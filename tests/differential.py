@@ -6,13 +6,13 @@ and a text of `generators/`; of `check_accepted` also a text with rows. Some cas
 and a few are calls of the library that are misuse, or nearly. The library answers each case, by a few processes that load it, and the program itself
 at least a tenth of them. Status and answer must be those of the model, octet by octet. In some cases the library gets a buffer that is too small.
 
-A case depends on the seed and its number alone. A case that differs is made smaller and printed; `--first NUMBER --cases 1` with the
-same seed repeats it. The tables at the end say how often each row of the document's tables came. With 20,000 cases or more it is a failure
+A case depends on the seed and its number alone. The first five that differ are made smaller and printed; `--first NUMBER --cases 1` with the
+same seed repeats one. The tables at the end say how often each row of the document's tables came. With 20,000 cases or more it is a failure
 if a row never came, or if the program answered less than a tenth of them. `test_model.py` makes these comparisons among the tests.
 
 Needs a C compiler, which makes a shared object of the library in a temporary folder; with --program-alone there is no library, and the
-program answers each text. The last line counts the commands and what is asked of guards, strings and calls that are misuse as one each,
-and the tests of the run as a whole: the rows that came, the part of the program.
+program answers each text but those of `check_accepted`. The last line counts the commands and what is asked of guards, strings and calls that
+are misuse as one each, and the tests of the run as a whole: the rows that came, the part of the program.
 Usage: tests/differential.py [--cases N] [--seed S] [--first NUMBER] [--jobs J] [--program-alone] [PROGRAM [LIBRARY]]"""
 import argparse
 import ctypes
@@ -305,7 +305,7 @@ def unreached(rows: Counter) -> list[str]:
 
 def faults_of_run(cases: int, rows: Counter, by_program: int) -> list[str]:
     """What is wrong with a run of 20,000 cases or more as a whole, at most one text for each of two tests: each row came, and the program answered a
-    tenth of the cases. `by_program` is how many it answered."""
+    tenth of the cases. `by_program` is how many it answered. A smaller run has no such fault."""
     never, is_whole = unreached(rows), cases >= WHOLE_COVERAGE
     tests = [(f"never came: {'; '.join(never)}", is_whole and never),
              (f"the program answered {by_program} cases, less than a tenth", is_whole and by_program < PROGRAM_SHARE * cases)]
@@ -313,8 +313,8 @@ def faults_of_run(cases: int, rows: Counter, by_program: int) -> list[str]:
 
 
 def main() -> int:
-    """Compares all cases, and prints the tables and what differs, at most SHOWN cases. Returns 1 if anything is wrong, else 0. Ends the process with
-    status 1 if the program or the library is missing. `.ci/merge_gate/` reads the last two lines: `deep` the seed, `report` the counts."""
+    """Compares all cases. Prints the tables, the first SHOWN cases that differ, and all that ended a process. Returns 1 if anything is wrong, else 0.
+    Ends the process with status 1 without program or library. `.ci/merge_gate/` reads the last two lines: `deep` the seed, `report` the counts."""
     options, begun = arguments(), time.monotonic()
     archive = None if options.program_alone else options.library
     for name in (options.program, *([archive] if archive else [])):

@@ -15,6 +15,7 @@ def servers() -> Any:
 
 
 def page_tests() -> Any:
-    """The module that opens the playground in a browser."""
+    """The module of the playground's tests. Its import looks for all that the tests use, which takes a while, so it is imported only here. It needs
+    no browser. Its class InChromium opens the page in one: without that, its driver or Selenium `InChromium.setUpClass` raises an exception."""
     from suite import test_playground
     return test_playground

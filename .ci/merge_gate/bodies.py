@@ -10,8 +10,8 @@ from typing import Any, NamedTuple
 
 from merge_gate import toolchain
 
-# The head of a function: its spaces and its name. The head of an `impl`: its trait, if it has one, and its type. What errors say of a name that an
-# edit has removed.
+# The head of a function: its spaces and its name. The head of an `impl`: its trait and the argument of that, if it has them, and its type. What
+# errors say of a name that an edit has removed.
 HEAD = re.compile(r'^(\s*)(?:pub(?:\([a-z]+\))?\s+)?(?:const\s+)?(?:extern\s+"C"\s+)?fn\s+(\w+)')
 IMPL = re.compile(r"^impl(?:<.*?>)? (?:(\w+)(?:<(\w*).*?>)? for )?(\w+)")
 NAME_GONE = re.compile(r"has no field|is not in scope|has no `|was not admitted")
@@ -29,7 +29,7 @@ def path_of(file: str, lines: list[str], at: int, name: str) -> str:
 
 
 def function_around(file: str, lines: list[str], number: int) -> str | None:
-    """The path (`path_of`) of the function of a file that line `number`, from 0, is in. None if it is in none. A `}` below the head ends it."""
+    """The path (`path_of`) of the function of a file that line `number`, from 0, is in. None if it is in none. A `}` indented as the head ends it."""
     for at in range(number, -1, -1):
         head = HEAD.match(lines[at])
         if head:

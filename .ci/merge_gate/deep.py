@@ -72,7 +72,7 @@ def run_all(counts: Counts) -> None:
 
 def main(about: str) -> int:
     """Runs what the command line asks for. `about` is the text of its help. Returns 1 if something failed, else 0. Ends the process with status 2 if
-    the words are wrong, also if `--alone` has no names: a run that tries nothing must not pass."""
+    the words are wrong, also if `--alone` has no names: a run that tries nothing must not pass. It has status 1 if a crate is missing."""
     parser = argparse.ArgumentParser(description=about)
     parser.add_argument("names", nargs="*", metavar="NAME", help="a crate whose wrong bodies are tried, or with --alone also CRATE/WRONG-BODY")
     parser.add_argument("--alone", action="store_true", help="prove nothing first, and write no record: take the libraries that `rt ci` left")

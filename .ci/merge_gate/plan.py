@@ -12,7 +12,7 @@ GATE = [
 # How many minutes each part of the deep run may take.
 DEEP_MINUTES = 300
 
-# What the deep run runs behind the wrong bodies: the program that it needs beside Python, and its words.
+# What the deep run runs behind the wrong bodies: the program that it needs beside Python (`python3`: none), and its words.
 LONG = [
     ("python3", ["tests/run", "--long"]),
     ("sexp-conv", ["examples/peers.py"]),

@@ -79,7 +79,7 @@ def remove_kept_libraries() -> None:
 
 def give_libraries(names: set[str]) -> None:
     """Puts the libraries of these crates into their folders, as `rt ci` has kept them for the present files. Where it kept none, the folder has none.
-    The names must include all crates below each. It is needed behind `rt ci NAME ..`, which works on a copy and leaves no libraries here."""
+    `names` may be empty, and must include all crates below each. It is needed behind `rt ci NAME ..`, which works on a copy and leaves none here."""
     chosen = crates(*names).values() if names else ()
     rt_module().Crate.cuts_libraries = True  # (as `rt ci` does: a crate then loads only the statements of the libraries below it)
     kept = rt_module().Kept(chosen, anew=False)

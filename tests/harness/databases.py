@@ -138,7 +138,7 @@ class Server:
 
 @contextlib.contextmanager
 def killed_at_end(process: subprocess.Popen[Any]) -> Iterator[subprocess.Popen[Any]]:
-    """A context that kills a process when it ends."""
+    """A context at whose end a process is killed. Yields the process."""
     try:
         yield process
     finally:

@@ -27,6 +27,6 @@ def go(folder: str, words: list[str], library: str, stdin: bytes | None = None, 
 
 
 def build_daemon(library: str, to: str, *flags: str) -> str:
-    """Builds spki-authd with a static library at the path `to`, which it returns. `flags` are options of `go build`. Raises CalledProcessError."""
+    """Builds spki-authd with a static library at the path `to`, which it returns, by `go build FLAGS`. Raises CalledProcessError if that fails."""
     go(DAEMON, ["build", *flags, "-o", to, "."], library).check_returncode()
     return to

@@ -16,10 +16,8 @@ from model.calls import DONE, GRANTED, MISUSED, TOO_SMALL
 from model.guard import Parts, Signed, answer
 from model.values import Atom
 
-# octets of a buffer that each line of a refusal fits into
-ROOM = 64
-# so many structures have more octets than an array can have
-MANY = 2**60
+ROOM = 64  # (octets of a buffer that each line of a refusal fits into)
+MANY = 2**60  # (so many structures have more octets than an array can have)
 # a place far past all signatures: the count of those that are listed, at most 16, is added, and the sum must still have 64 bits
 NEAR_MOST = 2**64 - 255 - 16
 # What stands for the signatures of a question that the library lists wrongly: no question has it.
@@ -239,8 +237,8 @@ class GuardDoor:
         return status, octets.raw[:needed.value]
 
     def refuses_small_buffers(self, question: GuardQuestion, handle: c_void_p, asked: c_void_p) -> bool:
-        """Whether the calls for a question return TOO_SMALL and write nothing, where the buffer is one octet too small. Opens the guard in `handle`
-        and the question in `asked`, which the caller closes. `status_too_small` is TOO_SMALL, and counts that a row of the model was reached."""
+        """Whether the call that writes a refusal's line or the answer returns TOO_SMALL and writes nothing, if its buffer is one octet too small.
+        Opens guard and question in the handles, which the caller closes. `status_too_small` is TOO_SMALL, and counts that a row was reached."""
         status, line = self.open_guard(question, handle, ROOM)
         if status != DONE:
             status, buffer = self.open_guard(question, c_void_p(), len(line) - 1)

@@ -1,7 +1,7 @@
-"""Machines that have nothing but what a page names: Debian's mmdebstrap makes each as a chroot, runs a script there, and removes it.
+"""Machines that have nothing but what a page names: Debian's mmdebstrap makes each as a chroot, runs two scripts there, and removes it.
 
 A machine has the system's smallest set of packages, those that the page names, and the files of the repository in ~/clone, with what is built where
-the page's own commands would leave it. The script runs as an ordinary user, in an empty folder, with no environment but HOME and PATH."""
+the page's own commands would leave it. Root's script runs in ~/clone, then the user's in an empty folder, with no environment but HOME and PATH."""
 from __future__ import annotations
 
 import os

@@ -14,7 +14,7 @@ from typing import Any
 @dataclass(frozen=True)
 class Need:
     """A command, a header of C, a file or a module of Python, its Debian package, and what is left out `without` it. The form of the name says what
-    it is: a header ends with `.h`, a module is behind `import `, and a path has `/`."""
+    it is: a header ends with `.h`, a module is behind `import `, and any other path has `/`."""
 
     name: str
     package: str

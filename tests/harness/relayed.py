@@ -15,7 +15,7 @@ from harness.guard_door import Asked, Decision, Listed, Text
 CALLS = ("memory", "spki_answer", "spki_check_accepted", "spki_guard_open", "spki_guard_close", "spki_guard_entries", "spki_guard_ask",
          "spki_asked_count", "spki_asked_signature", "spki_asked_mark", "spki_asked_granted", "spki_asked_possible", "spki_asked_decide",
          "spki_asked_explain", "spki_asked_reduce", "spki_asked_close", "spki_string")
-ARGUMENTS = 8
+ARGUMENTS = 8  # (of each call: relay.c reads so many)
 PARTS = ("sequence", "key", "request", "moment")
 # In the tests a longer text, or more strings, are misuse: no octet of them is read.
 MOST_OCTETS, MOST_WORDS = 1 << 22, 2000

@@ -57,7 +57,7 @@ def run(program, command, text, seconds=SECONDS):
 
 def output_of(*words, text=None, seconds=SECONDS, **settings):
     """Runs a command with `text` as its input. Returns its exit status and all that it writes to both outputs, as a text. Raises TimeoutExpired after
-    so many seconds. `settings` are those of `subprocess.run`."""
+    so many seconds. Without a text the input is that of this process. `settings` are those of `subprocess.run`."""
     done = subprocess.run(words, input=text, stdout=subprocess.PIPE, stderr=subprocess.STDOUT, timeout=seconds, text=True, **settings)
     return done.returncode, done.stdout
 

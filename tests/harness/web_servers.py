@@ -83,7 +83,7 @@ class ServerSite(served.Site):
 
 
 class Nginx(ServerSite):
-    """nginx, without its rates. test_nginx.py has more lines of other sites."""
+    """nginx, with rates that no test reaches. test_nginx.py has more lines of other sites."""
 
     name, form = "nginx", "escaped-pem"
     files = ("loopback.conf", "files.conf")

@@ -64,7 +64,8 @@ class OfCalls(unittest.TestCase):
         cls.answers = dict(zip(cls.rows, call_rows.answers(built.existing(cls.path), cls.rows.values())))
 
     def check_row(self, name: str) -> None:
-        """The program's answer to the row of this name must be the expected one. It is `no answer` if the program ended before this row."""
+        """The program's answer to the row of this name must be the expected one. If the program ended early, with a status other than 0, the first
+        row without an answer has `ended with STATUS`, and those behind it `no answer`."""
         row, answer = self.rows[name], self.answers.get(name, b"no answer")
         if answer != row.answer:
             texts = "\n".join(f"text   {shown(text)}" for text in row.texts)

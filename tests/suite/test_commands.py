@@ -185,7 +185,7 @@ class OnMachines(built.OfLibrary):
                                               f"echo {machine.page}\n{machine.before}{before}echo '{END}' 0\n{script}")
 
     def check_page(self, machine: Machine) -> None:
-        """The commands of a page must write what the page says, or, where it says nothing, end with status 0. Those in blocks `console` show what
+        """The commands of a page must write what it says, or end with status 0 or by STATUSES if it says nothing. Those in blocks `console` show what
         they write. Others are in indented blocks, if `Machine.blocks` is set, but for NOT_ON_MACHINES; and in backticks, by OF_ROOT or IN_CLONE."""
         commands = list(page_commands.commands_of(machine.page))
         if any(command.kind == "console" for command in commands):

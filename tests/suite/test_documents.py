@@ -155,7 +155,7 @@ class Documents(unittest.TestCase):
         self.assertEqual(list(ways.faults("docs/ARCHITECTURE.md", ways.bodies_of(below_crates("src/**/*.rt")))), [])
 
     def test_calls_for_c(self) -> None:
-        """Each function `spki_c_..` has a row in docs/PROOFS.md. A call of spki.h calls its namesake, or is explained there."""
+        """Each function `spki_c_..` has a row in docs/PROOFS.md. A call of spki.h has a namesake among these, or is explained there."""
         self.assertEqual(list(claims.unclaimed("docs/PROOFS.md", "crates/spki_c/spki.h", "crates/spki_c/spki.c")), [])
 
     def check_page(self, page: str) -> None:

@@ -38,7 +38,7 @@ impl<'a> Display for Name<'a> {
 
 
 def functions_changed(old: str, new: str, file: str = "src/names.rt") -> set[str | None]:
-    """The functions of SOURCE that an edit changes, which puts `new` in the place of `old`. None is among them for what is in no function."""
+    """The functions of SOURCE that an edit changes, which puts `new` in the place of `old`. What is in no function counts as None."""
     assert SOURCE.count(old) == 1
     return bodies.functions_changed(file, SOURCE, SOURCE.replace(old, new))
 
@@ -83,7 +83,7 @@ class Records(unittest.TestCase):
     """What the deep run has recorded."""
 
     def test_what_a_record_covers(self) -> None:
-        """A record is a checksum of contracts and of ghost members, such as views. Other bodies and remarks leave it as it is."""
+        """The checksum of a record covers contracts and ghost members, such as views. Other bodies and remarks leave it as it is."""
         def heads(text: str) -> list[str]:
             return [found[0] for pattern in (records.HEAD, records.GHOST) for found in pattern.finditer(records.REMARK.sub("", text))]
 
@@ -136,12 +136,12 @@ class CommandLines(unittest.TestCase):
     """Command lines of the tests and of the deep run. One by which nothing would be tried must not pass."""
 
     def test_no_test(self) -> None:
-        """A run fails if no test has the given name, or if it may use no process (`--jobs 0`)."""
+        """A run fails if no test has the given word in its name, or if it may use no process (`--jobs 0`)."""
         for name, *words in ("run", "--pages", "-k", "no such test"), ("run", "--as-built", "--jobs", "0"), ("differential.py", "--jobs", "0"):
             self.assertNotEqual(subprocess.run([os.path.join(TESTS, name), *words, "--cases", "9"], capture_output=True).returncode, 0, words)
 
     def test_command_of_a_failed_test(self) -> None:
-        """The command that `tests/run` prints with a failed test, to run it alone, has the number of generated cases if it is not the usual one."""
+        """The command that `tests/run` prints with a failed test, to run it alone, has `--quick` and the number of cases if the run had them."""
         script = loaded(os.path.join(TESTS, "run"))
         for words in ("tests/run", "tests/run --quick --cases 9"):
             with mock.patch.object(sys, "argv", words.split()):

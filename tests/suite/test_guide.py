@@ -126,7 +126,7 @@ def snippets_of(page):
 
 
 def lines_of_first_certificate(page: str) -> list[str]:
-    """The indented commands of the text of a page that make the first certificate."""
+    """The lines of the indented blocks with `spki-cert` in the text of a page. They make the first certificate."""
     return [line for _, block in indented(page) if "spki-cert" in block for line in block.splitlines()]
 
 

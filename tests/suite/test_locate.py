@@ -74,8 +74,8 @@ MISTAKES = [
     (with_certificate(KEY).replace(':00"))', ':00") (policy open))'), "case Shape", (5, 71), "leave it out"),
     (with_certificate(KEY).replace(':00"))', ':00") (polisy strict))'), "case Shape", (5, 71), "is `policy` meant?")]
 
-# Parts of a question to a guard, and access lists: the text, the words of the refusal that `locate` is given or none, the refusal that it must
-# show, the place as line and column, and words of the remark.
+# Parts of a question to a guard, access lists, and a case that is read as such although a part's refusal is given: the text, the words of the refusal
+# that `locate` is given or none, the refusal that it must show, the place as line and column, and words of the remark.
 SIGNED = f"(signature {HASH} {KEY} sig)"
 OF_PARTS = [
     (f"(acl\n (entry {KEY} (tag a))\n (entry {KEY}\n (taag a)))", "", "acl 2 Shape", (4, 2), "`tag` meant"),
@@ -170,7 +170,7 @@ class Refusals(unittest.TestCase):
         self.assertEqual(located, refusal, f"{place}: {command}\ntext   {text[:1000]!r}\nexpected {refusal!r}\nactual   {located!r}")
 
     def test_statuses(self) -> None:
-        """The exit status is 0 if the form is right, 1 if a place is shown, and 2 if the refusal that `locate` is given is another one."""
+        """The status is 0 if the form is right or the given refusal has no place, 1 if a place is shown, and 2 if the given refusal is another."""
         for text, refusal, wanted, words in STATUSES:
             with self.subTest(text):
                 status, output = locate(text, refusal)

@@ -1,6 +1,6 @@
 """Compares the library and the program with the model in `model/`, on as many generated cases as SPKI_TEST_CASES says; and the model with
 the rows of the tables, whose answers were worked out by hand, and with the words of docs/FORMATS.md.
-`differential.py` says what a case is, and repeats one. Where the program alone is tested, it answers each text."""
+`differential.py` says what a case is, and repeats one. Where the program alone is tested, it answers each text but those of `check_accepted`."""
 import os
 import re
 import secrets
@@ -66,7 +66,7 @@ class Model(unittest.TestCase):
 
 @needs.needs(*([] if built.IS_ALONE else needs.LIBRARY))
 class Generated(built.OfProgram):
-    """The library on each case and the program on some; or the program alone on each text."""
+    """The library on each case and the program on some; or the program alone on each text of its commands."""
 
     # `differ` and `ended` are the numbers of the cases that differ, and of those that ended their process. `rows` counts how often each row of
     # the model came. `described` has what is printed of some of these cases, by their numbers. `by_program` is how many cases the program answered.

@@ -16,7 +16,7 @@ SECONDS = 600
 NAME = "files.example.org"
 NGINX = """daemon off; pid {room}/pid; events {{}} http {{ {http} access_log off; client_body_temp_path t; proxy_temp_path t; fastcgi_temp_path t;
 uwsgi_temp_path t; scgi_temp_path t; server {{ listen unix:{room}/proxy; location / {{ proxy_pass http://{to}; {more} }} }} }}"""
-# Lines of nginx: OWN_HOST passes on the host name that the client sent, and BY_NONCE takes the nonce out of a signature.
+# Lines of nginx: OWN_HOST passes on the host name that the client sent, and BY_NONCE reads the nonce of a signature, by which services are chosen.
 OWN_HOST = "proxy_http_version 1.1; proxy_set_header Host $http_host;"
 BY_NONCE = """map $http_signature_input $spki_nonce { '~;nonce="([^"]+)"' $1; }"""
 CADDY = "{{\nadmin off\nauto_https off\n}}\nhttp:// {{\nbind unix/{room}/proxy\nreverse_proxy 127.0.0.1:{port}\n}}\n"
@@ -34,11 +34,11 @@ class Proxies(unittest.TestCase):
 
     def setUp(self) -> None:
         """Makes a folder for the proxy's files, a signer of requests, and two services, which verify them."""
-        from cryptography.hazmat.primitives.asymmetric.ed25519 import Ed25519PrivateKey
+        from cryptography.hazmat.primitives.asymmetric.ed25519 import Ed25519PrivateKey  # (here, as it may be missing)
 
         import spki_http
         from suite import test_signatures
-        import test_spki_http
+        import test_spki_http  # (here, since it raises SkipTest where cryptography is missing)
         self.room = room_for(self)
         self.signer = test_spki_http.ed25519_signer(Ed25519PrivateKey.generate())
         self.services = [test_signatures.Service() for _ in range(2)]
@@ -132,6 +132,6 @@ class Proxies(unittest.TestCase):
 
     @needs.needs("caddy")
     def test_caddy(self) -> None:
-        """Caddy encodes octets that no URI has, which the signature does not cover, and makes one line of a folded one, which is refused then."""
+        """Caddy encodes octets that no URI has, so the signature is of another path, and makes one line of a folded one: both are refused then."""
         self.start(["caddy", "run", "--config", "conf", "--adapter", "caddyfile"], CADDY.format(room=self.room, port=self.service.server_port))
         self.check_answers({"no URI's octets": "invalid-signature", "folded": "malformed"})

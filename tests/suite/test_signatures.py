@@ -209,7 +209,7 @@ class VerifierInC(unittest.TestCase):
 
     def check_answers(self, verifier: str, library: str) -> None:
         """The verifier in C, with one of signatures as `compile` has it, must answer all rows rightly, and mutated rows as that in Python does."""
-        import test_spki_http
+        import test_spki_http  # (here, since it raises SkipTest where cryptography is missing)
         program, rows = self.compile(verifier, library), [*test_spki_http.rows()]
         names, right_answers = [row[0] for row in rows], [row[4] for row in rows]
         self.assertEqual([*zip(names, self.answers(program, rows))], [*zip(names, right_answers)])
@@ -223,7 +223,7 @@ class VerifierInC(unittest.TestCase):
     @needs.needs("openssl/evp.h")
     def test_bodies_that_no_field_announces(self) -> None:
         """With a body that no field announces, as HTTP/2 may send it, the verifier in C answers as that in Python: also a GET needs a digest then."""
-        import test_spki_http
+        import test_spki_http  # (here, since it raises SkipTest where cryptography is missing)
         rows: list[Row] = [(name, dataclasses.replace(message, has_body=True), now, None, "") for name, message, now, _, _ in test_spki_http.rows()]
         wanted = [answer_by_check(test_spki_http.verifier_at([row[2]]), row[1]) for row in rows]
         self.assertLessEqual({"valid", "body-without-digest"}, set(wanted))

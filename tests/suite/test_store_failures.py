@@ -1,8 +1,8 @@
 """Tests `spki-authd` with an access list in PostgreSQL (the store) while servers die, are cut from each other, lag behind, have a wrong clock or a
 full disk. The primary is written to, and replicas copy it. A heartbeat writes the time to the primary, so a daemon sees how old a server's state is.
 
-Under each failure of `Questions` 20,000 questions are asked while the list changes. Each answer must be a failure, or that of the guard of the whole
-list as of a moment that is at most `stale_seconds` (STALE) ago. All are long tests. Those with a network or a disk of their own need root."""
+Under each failure of `Questions` at least 20,000 questions get an answer while the list changes: failures are not counted. Each answer must be that
+of the whole list's guard at a moment at most `stale_seconds` (STALE) ago. All are long tests. Those with a network or disk of their own need root."""
 import contextlib
 import os
 import secrets
@@ -127,7 +127,7 @@ class Questions(WithOwnServers):
 
     def ask_while(self, host: str, writers: list[Server], fail_and_mend: Callable[[], None], *before: str, root: str = "") -> None:
         """Runs the generated questions of the daemon's tests on the store at `host`: the folder of a server, which has its socket, or its address. A
-        second later calls `fail_and_mend`. The questions go on until it returns, and must end within 600 seconds after that. All answers must be
+        second later calls `fail_and_mend`. They go on at least until it returns, and must end within 600 seconds after that. All answers must be
         right. The list is changed on the one of `writers` that can be written to. `before` is a command that runs the questions, as words. `root` is
         the path of the certificate that TLS trusts, or empty for no TLS. Prints how many answers of each kind there were."""
         end = os.path.join(self.room, "end")
@@ -258,7 +258,7 @@ class Daemons(WithOwnServers):
         root = self.give_certificate(replicas[1])
         self.start_beat(primary.address)
         hosts = ",".join(each.address for each in nodes[:3])
-        self.start_beat(f"host={hosts} user=postgres dbname=postgres target_session_attrs=read-write", *nodes[3].words)  # (to the primary then)
+        self.start_beat(f"host={hosts} user=postgres dbname=postgres target_session_attrs=read-write", *nodes[3].words)  # (to whichever is primary)
         old, near, far = (self.start_daemon("old", primary), self.start_daemon("near", replicas[0]),
                           self.start_daemon("far", replicas[1], *nodes[3].words, host=nodes[2].address, root=root))
         alice, bob = self.people["alice"], self.people["bob"]
@@ -297,8 +297,8 @@ class Daemons(WithOwnServers):
 
     @needs.needs("ip")
     def test_full_disk_for_entries(self) -> None:
-        """Where the disk of the tables of entries and of changes, of 3 MiB, is full, `spki-store` adds nothing and removes nothing: it ends with the
-        status 3. No change is half done, and the daemon decides by the entries that are there. On a larger disk `spki-store` removes again."""
+        """The disk of the tables of entries and of changes has 3 MiB. An import that fills it adds the batches that had room, and ends with status 3.
+        Once removals find no room either, they end so too. The daemon decides by the entries that are there. On a larger disk a removal succeeds."""
         primary, room = self.primary(), tempfile.mkdtemp()
         self.addCleanup(os.rmdir, room)
         databases.mount(room, mib=3)

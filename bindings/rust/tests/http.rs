@@ -1,6 +1,6 @@
 //! Requests that are signed, by the table that the verifiers of all languages read. A row of it is a request, and
 //! `gives` the answer that it must get: `valid` or the name of a refusal. The services begin at START, the second 1,792,000,000 since 1970.
-//! `openssl` verifies and hashes keys, and coreutils make digests.
+//! `openssl` verifies signatures and hashes keys, and coreutils make digests.
 
 #[path = "../examples/by_openssl/mod.rs"]
 mod by_openssl;
