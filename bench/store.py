@@ -1,8 +1,8 @@
 #!/usr/bin/env python3
 """Measures decisions by a store in PostgreSQL with so many entries, and ends with another status where a limit is passed.
 
-Of 100 entries 95 are each for a key of its own. Five are for names under the keys of groups, each of which has 50. The server (`server`) is started
-in a temporary folder, with a quarter of a GiB of its own memory. `count` is a number of entries, and `library` the path of the library for C.
+Of 100 entries 95 are each for a key of its own. Five are for names under the keys of groups: each group has 50 of them. The server (`server`) is
+started in a temporary folder, with a quarter of a GiB of its own memory. `count` is a number of entries, and `library` the path of the library for C.
 
 - import: entries a second by `spki-store import`, from a file; the octets of the tables.
 - hit, miss: the median and the 99th percentile of a decision, in µs, where its rows are kept, and where they are read. The library's part is in it,
@@ -43,9 +43,9 @@ import shares  # noqa: E402
 databases = servers()
 
 SCHEMA = "spki"
-# How many names each group has.
+# How many entries each group has, all for its name `members`.
 GROUP = 50
-# How many times the medians may grow from the smallest number of entries to the largest: of misses, and when cold.
+# By what factor the medians may grow from the first number of entries to the last: of misses, and when cold.
 MOST_GROWTH, MOST_COLD = 1.5, 3.0
 # How many daemons are asked, how often a second each (0: as often as it answers), and for how many seconds.
 DAEMONS, RATES, SECONDS = (1, 2, 4), (0, 10_000), 8
@@ -164,6 +164,7 @@ def ask_by_people(server, library, count, program, number, rate, share=0.0):
 @contextlib.contextmanager
 def removing_added_entries(server):
     """A context that removes the entries that are added within it, unless it ends by an exception, which ends the bench."""
+    # (imported once SPKI_LIBRARY is set, as in `new_store` and `fill`)
     from spki_store_tool.tables import Store
     with contextlib.closing(Store(server.address, SCHEMA)) as store:
         (last,), = store.rows("SELECT max(number) FROM {entries}")
