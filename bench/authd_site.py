@@ -228,6 +228,7 @@ class Site:
 
 def self_signed(private):
     """A TLS certificate of a private key that this key has signed, in PEM."""
+    # (imported here, since it takes a tenth of a second: `--help` does not wait for it)
     from cryptography import x509
     from cryptography.hazmat.primitives.serialization import Encoding
     name, now = x509.Name([]), datetime.now(timezone.utc)

@@ -8,7 +8,7 @@ started in a temporary folder, with a quarter of a GiB of its own memory. `count
 - hit, miss: the median and the 99th percentile of a decision, in µs, where its rows are kept, and where they are read. The library's part is in it,
   HTTP is not.
 - cold: the same where PostgreSQL was started again, and the system was told to forget its files.
-- load: decisions a second of as many goroutines as fit, nine of ten by rows that are kept.
+- load: decisions a second of two goroutines for each processor, nine of ten by rows that are kept.
 - served: the same over HTTP, by 1, 2 and 4 daemons on this machine, each with 16 connections and a TLS certificate in each request: as many as they
   answer, and 10,000 a second of each. Decisions a second, median and 99th percentile in µs, the processor time of a decision in daemons, PostgreSQL
   and clients in µs, the octets that a daemon reads and writes for one, the processors that were busy, and the memory of a daemon and of PostgreSQL.
@@ -164,7 +164,7 @@ def ask_by_people(server, library, count, program, number, rate, share=0.0):
 @contextlib.contextmanager
 def removing_added_entries(server):
     """A context that removes the entries that are added within it, unless it ends by an exception, which ends the bench."""
-    # (imported once SPKI_LIBRARY is set, as in `new_store` and `fill`)
+    # (imported here, once `main` has set SPKI_LIBRARY)
     from spki_store_tool.tables import Store
     with contextlib.closing(Store(server.address, SCHEMA)) as store:
         (last,), = store.rows("SELECT max(number) FROM {entries}")
@@ -211,6 +211,7 @@ def faults_of_shares(server, library, count, share, times):
 
 def new_store(server):
     """Makes the tables of a store at a server. Returns the store, which the caller closes."""
+    # (imported here, once `main` has set SPKI_LIBRARY)
     from spki_store_tool.tables import Store
     store = Store(server.address, SCHEMA)
     store.make()
@@ -224,6 +225,7 @@ def fill(store, count, folder):
         file.write(b"(3:acl")
         file.writelines(entries(count))
         file.write(b")")
+    # (imported here, once `main` has set SPKI_LIBRARY)
     from spki_store_tool.transfer import import_list
     begun = time.monotonic()
     import_list(store, path, sys.stderr.isatty())
