@@ -4,10 +4,10 @@
 The list has 10,000 entries. Each request shows three certificates by Ed25519. The signatures of nine requests of ten were verified before, and
 those of the tenth were not: the caches are too small for them.
 
-- Requests a second through nginx with `auth_request`, beside nginx alone: the most that any of these numbers of connections gets. The daemon must
-  reach 0.55 of the handler's.
+- Requests a second through nginx with `auth_request`, beside nginx alone: the most that 32, 64 or 128 connections get. The daemon must reach
+  0.55 of the handler's.
 - The processor time of a request.
-- The 99th percentile of the time at half of that load.
+- The 99th percentile of the time at half of that load: at most 10 ms.
 - Under load, with a reload each second: wrong answers, and the resident memory.
 - The same for a short time with Go's race detector.
 

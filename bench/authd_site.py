@@ -19,7 +19,7 @@ from shared import BENCH, canonical, golang  # noqa: E402
 from spki_cert_tool.keys import FileSigner, hash_of, new_private  # noqa: E402
 
 ENTRIES, HOT, COLD = 10_000, 100, 6_000
-# The cache has room for the certificates of the hot chains, and for few of the cold ones. So do the 1,000 sequences that the daemon keeps.
+# The cache has room for the certificates of the hot chains, and for few of the cold ones. So have the 1,000 sequences that the daemon keeps.
 CACHE = 2_000
 # The environment of the daemon, as its unit sets it.
 UNIT = {"GLIBC_TUNABLES": "glibc.malloc.tcache_count=100"}
@@ -27,8 +27,8 @@ UNIT = {"GLIBC_TUNABLES": "glibc.malloc.tcache_count=100"}
 SYNC = os.environ.get("SYNC", "seconds")
 PORTS = 3
 SECONDS_TO_START = 30
-# The script of wrk. Nine of ten requests show the HOT chains in turn, and each tenth shows one of the COLD ones. It is completed by HOT, by the file
-# of the chains, and by the most ms that a connection waits before a request.
+# The script of wrk. Its requests show the HOT chains in turn, but each tenth request shows one of the COLD ones in place of a HOT one. The script is
+# completed by HOT, by the file of the chains, and by the most ms that a connection waits before a request.
 LUA = """local chains, hot = {}, %d
 for line in io.lines("%s") do chains[#chains + 1] = "SPKI " .. line end
 local turn, cold = 0, 0
@@ -228,6 +228,7 @@ class Site:
 
 def self_signed(private):
     """A TLS certificate of a private key that this key has signed, in PEM."""
+    # (imported here, since it takes a tenth of a second: `--help` does not wait for it)
     from cryptography import x509
     from cryptography.hazmat.primitives.serialization import Encoding
     name, now = x509.Name([]), datetime.now(timezone.utc)

@@ -12,7 +12,7 @@ from check import LIMIT_MEMORY, LIMIT_RATIO, PROGRAM, group, key, run, string
 from memory import peak, processor_seconds
 from shapes import a_set, by_hashes, by_keys, case, certificate, entry, keys_of, through_names
 
-# The certificates of the chains, each four times as many as before, and how often each chain is decided.
+# The certificates of the chains, each about four times as many as before, and how often each chain is decided.
 LENGTHS = [94, 375, 1500]
 RUNS = 30
 LIMIT_SECONDS = 1.0

@@ -42,7 +42,7 @@ STAR = group(string("*"))
 
 
 def many_entries(size):
-    """Returns a text and how its answer begins: a case with entries of other keys, and the asking key's entry at the end."""
+    """Returns a text and how its answer begins: a case with entries of another key, and the asking key's entry at the end."""
     empty = len(case([entry("a", STAR)], string("ftp")))
     entry_octets = len(entry("b", STAR))
     return case([entry("b", STAR)] * ((size - empty) // entry_octets) + [entry("a", STAR)], string("ftp")), b"yes entry"
@@ -97,7 +97,8 @@ def one_string(size):
 
 
 def no_value(size):
-    """Returns a text and how its answer begins: empty lists without an end, which have the most nodes for the octets, and are no whole value."""
+    """Returns a text and how its answer begins: empty lists in a list without an end, which is no whole value. They have the most nodes for
+    the octets."""
     return b"(" + b"()" * ((size - 1) // 2), b"refused form Short\n"
 
 

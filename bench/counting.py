@@ -1,7 +1,7 @@
-"""How many instructions a run of a program takes, or a call that it repeats.
+"""How many instructions, or blocks of memory, a run of a program takes, or a call that it repeats.
 
 A counter is a function of a command (its words) and a text (an open file, or subprocess.DEVNULL), which runs the command on it and returns a
-number."""
+number. (`counted_by_perf` returns None where perf cannot count.)"""
 import contextlib
 import os
 import re

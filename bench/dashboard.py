@@ -1,8 +1,8 @@
 #!/usr/bin/env python3
 """Draws docs/pictures/dashboard.svg from a run of spki-authd behind nginx, by what `spki-authd -metrics` says each second.
 
-The run is that of authd.py under half of its load: a list of 10,000 entries, and chains of three certificates. After a quarter the client's issuer
-is taken from the list, after a half a reload is refused, and after three quarters the list is put back.
+The run is that of authd.py under half of its load: a list of 10,000 entries, and chains of three certificates. After a quarter the root,
+the first issuer of each chain, is taken from the list, after a half a reload is refused, and after three quarters the list is put back.
 
 Needs what authd.py needs. Usage: bench/dashboard.py [--seconds N] [LIBRARY]
 """
@@ -37,11 +37,11 @@ def metrics(site):
 
 
 def change_list(site, seconds):
-    """Takes the issuer from the list after a quarter of `seconds`, has a broken list refused after a half, and puts the list back after three
+    """Takes the root's entry from the list after a quarter of `seconds`, has a broken list refused after a half, and puts the list back after three
     quarters. The daemon reads the list after each change."""
     with open(site.list, "rb") as file:
         whole = file.read()
-    # (the issuer has the last entry)
+    # (the root has the last entry)
     without = whole[:whole.rindex(b"(5:entry")] + b")"
     for text in (without, b"(3:acl", whole):
         time.sleep(seconds / 4)

@@ -3,7 +3,7 @@
 limits are:
 
 - On cases of one entry, at most 4 times the instructions of `check`, which intersects no tags there, and at most 128 MiB of memory.
-- On many entries with many certificates, at most 1.5 times the entries times what one entry takes with the certificates: each is folded.
+- On many entries with many certificates, at most 1.5 times the number of entries times what one entry takes with the certificates: each is folded.
 - `reduce` of a text of 1 MiB, of which half is the key that stands in each line: at most 32 MiB of memory.
 
 Build the program first (`rt run` in crates/spki). Usage: bench/explain.py [PROGRAM]

@@ -8,10 +8,11 @@ and its network is cut: what is sent to it is lost, as if its machine had no pow
 and ended, and of each daemon, that of the promoted replica first, the first 503, the first answer after the last one, how long that took, and how
 long it was after the promotion; the last grant by the removed entry; and how many answers there were, how many wrong, and how many broken promises.
 
-An answer is wrong if the removed entry grants in a request that began over `stale_seconds` after the removal, if the entry that stays does not grant,
-or if somebody without an entry is granted something. A promise is broken if there is a 503 though the promotion ended `stale_seconds` - 2 after the
-failure, or if 503 lasts over `stale_seconds` though it ended 2 * `stale_seconds` - 2 after it. The heartbeat leaves a primary that is cut off after 4
-seconds, so that an earlier promotion counts as one after 4. Without --wait promotions begin at once, as late as just keeps each promise, and between.
+An answer other than 503 is wrong if the removed entry grants in a request that began over `stale_seconds` after the removal, if the entry that stays
+does not grant, if somebody without an entry is granted something, or if a denial is no 401. A promise is broken if there is a 503 though the
+promotion ended at most `stale_seconds` - 2 after the failure, or if 503 lasts over `stale_seconds` though the promotion ended at most
+2 * `stale_seconds` - 2 after it. The heartbeat leaves a primary that is cut off after 4 seconds, so that an earlier promotion counts as one after 4.
+Without --wait promotions begin at once, as late as just keeps each promise, and between.
 
 Build the library first. Needs PostgreSQL, psycopg, Go, its driver and `cryptography` (Debian: postgresql, python3-psycopg, golang-go,
 golang-github-lib-pq-dev, python3-cryptography); with --cut also iproute2 and root.
@@ -38,7 +39,8 @@ from spki_cert_tool.keys import FileSigner, new_private  # noqa: E402
 
 databases = servers()
 STAYS, GOES, NEVER = "stays", "goes", "never"
-# How long is asked before the failure, and up to a second more: it is anywhere between two heartbeats. And after the daemons answer again.
+# For how many seconds is asked before the failure, and up to one more, so that the failure is anywhere between two heartbeats; and for how many after
+# the daemons answer again.
 BEFORE, AFTER = 2.0, 3.0
 # The seconds between two requests to a daemon.
 PAUSE = 0.005
@@ -221,6 +223,7 @@ def waits_of(stale):
 def execute(server, *statements):
     """Runs statements of SQL, each in a transaction of its own, as ALTER SYSTEM must be. Returns the first row of the last, None if that returns no
     rows."""
+    # (imported here, so that --help works without it)
     import psycopg
     with psycopg.connect(server.address, autocommit=True) as connection:
         for statement in statements:

@@ -10,8 +10,8 @@ shows. The limits are:
 
 - At most 1 second at 1 MiB for each text except the last, and where it takes over 0.1 seconds, at most 5 times for 4 times the octets.
 - Many entries with many certificates take at most 1.5 times what the entries take with one certificate and the certificates with one entry.
-- The last text is of the worst kind that is known: each certificate is intersected with a tag of 331,776 strings. It has 16 certificates, and
-  is only measured. A guard decides it as quickly as the others, because it forms no intersection.
+- The last text is of the worst kind that is known: 16 certificates are each intersected with a tag of 331,776 strings. It is
+  only measured. A guard decides it as quickly as the others, because it forms no intersection.
 
 The exit status is 1 if a limit is exceeded or an answer is wrong.
 
@@ -150,7 +150,8 @@ def entries_and_two_words(entries, certificates, members):
 
 
 def long_key(entries, octets, members):
-    """A case of entries for a hash, each of which is compared with the key that asks, which has so many octets. It has no certificates."""
+    """A case of entries for a hash, each of which is compared with the key that asks, which has so many octets and a few more. The case has
+    no certificates."""
     return case_of([entry(digest(OWNER))] * entries, [], [], key("k" * octets))
 
 

@@ -5,8 +5,8 @@
  * macaroons CASE PARTS              prints the microseconds of each way, for macaroons.py
  * macaroons CASE PARTS WAY CALLS    grants CALLS times by one way, for counting instructions
  *
- * CASE is the file of the case, and PARTS that of its parts. Ends with 1 if a way does not grant or there is no such way, 2 for other words or a file
- * that cannot be read, and 3 if the list is refused. */
+ * CASE is the file of the case, and PARTS that of its parts. Ends with 1 if the question is not opened, a way does not grant or there is no such way,
+ * 2 for another number of words or a file that cannot be read, and 3 if the list is refused. */
 #define _POSIX_C_SOURCE 199309L
 #include <macaroons.h>
 #include <time.h>
@@ -45,7 +45,8 @@ static int opens_and_grants(void)
     return open_and_mark(&held) == SPKI_DONE && grants();
 }
 
-/* Makes the macaroon with three caveats, and writes its text to `macaroon`. */
+/* Makes the macaroon with three caveats, and writes its text to `macaroon`. The library requires `fault`, which is not read: all that is passed is
+ * constant, so only an allocation could fail. */
 static void mint(void)
 {
     enum macaroon_returncode fault;
@@ -59,7 +60,7 @@ static void mint(void)
     macaroon_destroy(minted);
 }
 
-/* Reads the macaroon and verifies it, and returns whether it is valid. */
+/* Reads the macaroon and verifies it, and returns whether it is valid. `fault` is not read: the status of the verification is enough. */
 static int verifies(void)
 {
     enum macaroon_returncode fault;

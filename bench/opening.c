@@ -3,8 +3,8 @@
  * opening FILE      the octets of the question in the file, the most octets of memory that are taken at once until its signatures are listed,
  *                   those that are kept, and the ms of the processor
  *
- * Ends with 4 if the question is not opened or a decision is misuse, 3 if the list is refused, and 2 for other words or a file that cannot be
- * read. */
+ * Ends with 4 if the question is not opened or a decision is misuse, 3 if the list is refused, and 2 for another number of words or a file that
+ * cannot be read. */
 #define _GNU_SOURCE
 #include "question.h"
 #include "taken.h"

@@ -51,7 +51,8 @@ def steps_in(folder):
 
 
 def main():
-    """Proves the crate and prints both tables. Ends with status 1, and what the check says, if the crate is not proved."""
+    """Proves the crate and prints both tables. Ends with status 1, and what the check says, if the crate is not proved, or the usage if no
+    crate is named."""
     if len(sys.argv) < 2:
         sys.exit(__doc__)
     name, rows = sys.argv[1], int(sys.argv[2]) if len(sys.argv) > 2 else 20

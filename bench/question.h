@@ -35,7 +35,7 @@ static struct spki_text read_text(FILE *file)
     return (struct spki_text){octets, length};
 }
 
-/* Opens a guard of a list under the strict policy. Ends the program with status 3 if the list is refused. */
+/* Opens a guard of a list under the strict policy. Ends the program with status 3 if it is not opened, as for a list that is refused. */
 static spki_guard *open_guard(struct spki_text list, const struct spki_limits *limits)
 {
     spki_guard *guard;

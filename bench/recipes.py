@@ -99,7 +99,7 @@ class Link:
 
 @dataclass(frozen=True)
 class Recipe:
-    """A list and a question. `grown`, modulo their number, is the place of the certificate of which a number grows, and `grows` the field that has
+    """A list and a question. `grown`, modulo the number of `links`, is the place of the link of which a number grows, and `grows` the field that has
     this number, empty if none grows. The request has `words` strings of `word_octets` octets each. `is_by_other`: a key asks that nothing is granted
     to."""
 
@@ -143,14 +143,14 @@ class Recipe:
         return [self.list_text(), group(string("sequence"), *items), OTHER if self.is_by_other else OWNER, request, string(AT)]
 
     def case(self) -> bytes:
-        """The list and the question as one text, a case with a row for each certificate."""
+        """The list and the question as one text, a case with a row for each different certificate."""
         acl, sequence, key, request, moment = self.parts()
         rows = {group(string("by"), OWNER, digest(cert), string("s")) for cert in self.certificates()}
         return group(string("case"), acl, group(string("accepted"), *sorted(rows)), sequence, group(string("key"), key),
                      group(string("request"), request), group(string("at"), moment))
 
     def tags(self) -> bytes:
-        """Two tags to be intersected."""
+        """The text that asks for the intersection of the entries' tag and that of the first link, which is `(*)` if there is no link."""
         return group(string("intersect"), self.entries.tag.text(), (self.links[0] if self.links else Link()).tag.text())
 
     # ---- how a text grows
@@ -219,7 +219,8 @@ def fitted(recipe: Recipe, list_octets: int, question_octets: int, certificates:
 @dataclass(frozen=True)
 class Form:
     """A text for the conversions: a list with the same member `lists` times. The member is `depth` lists in one another, of which the innermost has
-    `count` strings of one kind of FORMS. `octets` is how long a string is, where its kind has a length. `is_braced`: in transport form."""
+    `count` strings, or empty lists, of one kind of FORMS. `octets` is how long a string is, where its kind has a length: in base64 three times
+    as long. `is_braced`: in transport form."""
 
     kind: str = "token"
     count: int = 1
@@ -281,7 +282,8 @@ def changed_link(chance: random.Random, link: Link) -> Link:
 
 
 def changed(chance: random.Random, recipe: Recipe) -> Recipe:
-    """The recipe with one part changed by chance: its entries, a link, which number grows, or who asks for what. It gets at most four links."""
+    """The recipe with one part changed by chance: its entries, a link, which number grows, or who asks for what. One with four links gets
+    no further one."""
     entries, links, part = recipe.entries, recipe.links, chance.choice(("entries", "entries", "link", "link", "links", "grows", "request", "by"))
     if part == "entries":
         changes = (replace(entries, tag=changed_tag(chance, entries.tag)), replace(entries, names=chance.choice((0, 0, 1, 2, 50))),

@@ -2,7 +2,7 @@
  *
  * service decide FILE           the µs of listing the signatures and of a decision
  * service widest KIND FILE      with a limit of 64 KiB, of one question whose answer is `decide`, `explain` or `reduce`: the
- *                               status, the ms of the processor, those of listing the signatures, and the MiB that the library takes
+ *                               status, the ms of the processor in all, those of listing the signatures, and the MiB that the library takes
  * service threads N FILE        of one thread and of N (1 to 64), each with a guard of its own, the questions that are opened and decided in a
  *                               second; how many times as far N threads count as one; and how often the N threads waited for each 1,000
  *                               of them
@@ -130,7 +130,7 @@ static answering *call_for(const char *kind)
     exit(2);
 }
 
-/* The way `widest`: prints the status of one answer of a kind, its ms, those of listing the signatures, and the MiB. */
+/* The way `widest`: prints the status of one answer of a kind, the ms of listing the signatures and answering, those of listing them, and the MiB. */
 static void ask_widest(const char *kind, const char *path)
 {
     struct spki_limits limits = SPKI_USUAL_LIMITS;
@@ -177,7 +177,7 @@ static void *decide_on(void *number)
 }
 
 /* What a thread does until it is stopped, to find out how many processors are free: it only counts, and uses nothing that threads share. `number` is
- * that of the thread, from 0, as a pointer. */
+ * that of the thread, from 0, as a pointer. The waits of an earlier work stay in `tallies`: nothing prints them for this one. */
 static void *count_on(void *number)
 {
     long count = 0;
@@ -192,7 +192,8 @@ struct rate {
     double by_time, waits;
 };
 
-/* Has so many threads, 1 to MOST_THREADS, do some work for half a second, and returns how often they did it. */
+/* Has so many threads, 1 to MOST_THREADS, do some work for half a second, and returns how often they did it and waited. Ends the program with status
+ * 5 if a thread cannot be started. */
 static struct rate rate_of(void *(*work)(void *), size_t threads)
 {
     pthread_t ids[MOST_THREADS];

@@ -1,5 +1,5 @@
 #!/usr/bin/env python3
-"""Measures what a service does with a guard, through the library for C, and ends with another status where a limit is passed. Most texts are cases:
+"""Measures what a service does with a guard, through the library for C, and ends with status 1 where a limit is passed. Most texts are cases:
 an access list, certificates, which signatures are valid, and a question. `group` makes a list and `string` a string, in canonical form. A `driver`
 runs the program of service.c, which calls the library.
 
@@ -19,8 +19,8 @@ runs the program of service.c, which calls the library.
 
 The first four and Rust are compared by instructions. Where neither perf nor valgrind is there they are left out, and the digests and Rust where
 valgrind is not. `.ci/deep` reads the lines that say so, which end with `is left out` or `are left out`. The questions are compared by processor time.
-Other programs only add to a time. So each time is the least of some turns, and while it is over its limit, of more turns with pauses. The time to
-open a question of 1 MiB alone is taken once.
+Other programs only add to a time. So each time is the least of some turns, and while it is over its limit, of more turns with pauses. Only the time
+to open a question of 1 MiB is taken once.
 All ratios are taken in one run. Build the library first (crates/spki_c/archive.py).
 Usage: bench/service.py [LIBRARY]
 """
@@ -53,6 +53,7 @@ TURNS, MOST_TURNS, PAUSE = 3, 20, 10
 QUESTION_OCTETS, QUESTION_MEMBERS = 65_536, 99
 # The certificates that a guard takes whose caller sets no limits.
 USUAL_CERTIFICATES = 16
+# The most seconds of a run of service.c.
 SECONDS = 600
 # The function that digests by SHA-256.
 DIGEST = "sha2::block256::Core256::update"
@@ -105,8 +106,8 @@ class Driver:
         return program
 
     def run(self, *words):
-        """Runs service.c with these words, and returns the numbers that it prints. Ends the script if it fails. Large blocks of memory lie apart, so
-        that the pages in use do not depend on the gaps that earlier blocks left."""
+        """Runs service.c with these words, and returns the numbers that it prints. Ends the script if it fails. Raises TimeoutExpired after
+        SECONDS. Large blocks of memory lie apart, so that the pages in use do not depend on the gaps that earlier blocks left."""
         done = subprocess.run([self.program, *map(str, words)], stdout=subprocess.PIPE, text=True, timeout=SECONDS, env={**os.environ, **APART})
         if done.returncode:
             sys.exit(f"service {' '.join(map(str, words))}: status {done.returncode}")
@@ -139,7 +140,7 @@ def other_entries(count, subject_of=by_key):
 # Each of the parts below yields pairs: the name of a limit in MOST or LEAST, and the measured value.
 
 def many_entries(driver):
-    """Yields (name of a limit, ratio): the instructions of decisions with 10,000 entries to those with one."""
+    """Yields (name of a limit, ratio): the instructions of questions opened and decided with 10,000 entries to those with one."""
     for subjects, subject_of in (("keys", by_key), ("hashes", digest)):
         for what, make in (("no certificate", case_without_certificates), ("three certificates", case_with_three)):
             few, many = (driver.instructions("ask", driver.write_question("entries", make(count, subject_of))) for count in (1, ENTRIES))
@@ -254,8 +255,8 @@ def turns(is_limit_kept):
 
 
 def time_through_python(driver, text):
-    """The least µs of a decision through Python, with all signatures valid. `text` is a case whose question is granted. Sets SPKI_LIBRARY, which the
-    first import of `spki` reads."""
+    """The µs of a decision through Python, with all signatures valid: the least mean of a round. `text` is a case whose question is granted. Ends the
+    script if it is not. Sets SPKI_LIBRARY, which the first import of `spki` reads: so that import is here."""
     os.environ["SPKI_LIBRARY"] = driver.library.removesuffix(".a") + ".so"
     sys.path.insert(1, os.path.join(TOP, "bindings", "python"))
     import spki
@@ -291,7 +292,7 @@ def octets_of_question(text):
 
 def widest_of(shape, most_certificates=MOST_OCTETS):
     """What the widest case of a shape is, in words, and the case: its list has at most 1 MiB, and its question at most 64 KiB and `most_certificates`
-    certificates."""
+    certificates, besides the one for a large tag in the shapes that have such a tag."""
     entries = shape.entries(MOST_OCTETS, QUESTION_MEMBERS)
     certificates = min(most_certificates, largest_count(lambda count: octets_of_question(shape.make(1, count, QUESTION_MEMBERS)), QUESTION_OCTETS))
     return f"{shape.name}, {entries:,} and {certificates:,}", shape.make(entries, certificates, QUESTION_MEMBERS)

@@ -67,7 +67,8 @@ static enum spki_status time_call(struct held *held, const char *call, const str
     return status;
 }
 
-/* Makes the call that the words name some times, and prints what it takes, as the head of this file says. Returns 2 for other words. */
+/* Makes the call that the words name some times, and prints what it takes, as the head of this file says. Returns 2 for another number of words, or
+ * if there is no memory for the answers. */
 int main(int count, char **words)
 {
     if (count != 5)

@@ -2,9 +2,9 @@
 """Searches for the slowest texts of each call, and fails if one takes more than docs/PERFORMANCE.md says: the table "The texts that take longest".
 
 A recipe (recipes.py) has the numbers by which a text is made. The first recipes of each call are named: their texts were slow once. A search then
-changes their numbers by chance, one part at a time, with a fixed seed and for a fixed number of steps. It goes on from the recipe whose text takes
-the most time for its octets. The slowest ones are then made as large as the call allows, and measured beside the named ones. Times are processor
-times, the least of some runs: other programs only add to them.
+changes their numbers by chance, mostly one part at a time, with a fixed seed and for a fixed number of steps. It goes on from the recipe whose text
+takes the most time for its octets. The slowest ones are then made as large as the call allows, and measured beside the named ones. Times are
+processor times. A time over its limit is taken again, and the least counts: other programs only add to it.
 
 `--named` measures the named texts alone. A call may be named by its first words, as in `slowest.py "a guard decides"`.
 
@@ -33,11 +33,11 @@ FLAGS = ["-std=c11", "-O2", "-Wall", "-Wextra", "-Wpedantic", "-Werror", "-Wl,--
 # How many steps the searches for one call have together, their seed, how many of them begin with the plainest text, and how many of the slowest
 # texts are measured in full.
 STEPS, SEED, STARTS, IN_FULL = 160, 72, 2, 2
-# What a text of the search has, and the seconds after which a run is ended.
+# The most octets of the list and of the question of a text in a search, and the processor seconds after which a run is ended.
 SEARCHED_LIST, SEARCHED_QUESTION, MOST_SECONDS = 64 * KIB, 16 * KIB, 20
-# How often a time over its limit is taken again, and the seconds before each turn.
+# How often a time over its limit is taken again at most, and the seconds before each turn.
 TURNS, PAUSE = 4, 5
-# The most octets of memory of a run. With more `reduce` could take all of the machine: then it answers `refused Memory`.
+# The most octets of memory of a run. A run that needs more answers `refused Memory`. Without this limit `reduce` could take all of the machine.
 MOST_MEMORY = 8 << 30
 # Processor seconds for each entry that no limit of work refuses, as its product of nodes is at most 1,000,000, and for each octet that is written.
 SECONDS_AN_ENTRY, SECONDS_AN_OCTET = 0.1, 2e-9
@@ -311,8 +311,8 @@ def most_mebibytes(call: Call, recipe: Any) -> float:
 
 
 def least_cost(measure: Measure, call: Call, recipe: Any) -> Cost:
-    """The least that a call takes on a text, with memory and output. It is measured again, at most TURNS times, while its time is over the limit, but
-    not over twice."""
+    """What the quickest run of a call on a text takes, with memory and output. It is run again, at most TURNS times, while its time is over the
+    limit, but not over twice."""
     # (a run is ended some time after it is over twice its limit: more does not matter)
     most = 3 * most_seconds(call, recipe) + MOST_SECONDS
     least = measure.cost_of(call, recipe, most, is_whole=True)
@@ -325,7 +325,8 @@ def least_cost(measure: Measure, call: Call, recipe: Any) -> Cost:
 
 
 def faults_of(measure: Measure, call: Call, steps: int, seed: int) -> Iterator[str]:
-    """Measures a call, and prints its texts. Yields a line for each text that takes more than it may. A call's status is only printed."""
+    """Measures a call, and prints a line for each of its texts. Yields one for each text that takes more than it may. A call's status is only
+    printed."""
     print(f"{call.what}: at most {call.seconds:g} s, {call.mebibytes:g} MiB", flush=True)
     for what, recipe in recipes_of(measure, call, steps, seed):
         if recipe is None:

@@ -1,14 +1,14 @@
 #!/usr/bin/env python3
 """Measures decisions by a store in PostgreSQL with so many entries, and ends with another status where a limit is passed.
 
-Of 100 entries 95 are each for a key of its own. Five are for names under the keys of groups, each of which has 50. The server (`server`) is started
-in a temporary folder, with a quarter of a GiB of its own memory. `count` is a number of entries, and `library` the path of the library for C.
+Of 100 entries 95 are each for a key of its own. Five are for names under the keys of groups: each group has 50 of them. The server (`server`) is
+started in a temporary folder, with a quarter of a GiB of its own memory. `count` is a number of entries, and `library` the path of the library for C.
 
 - import: entries a second by `spki-store import`, from a file; the octets of the tables.
 - hit, miss: the median and the 99th percentile of a decision, in µs, where its rows are kept, and where they are read. The library's part is in it,
   HTTP is not.
 - cold: the same where PostgreSQL was started again, and the system was told to forget its files.
-- load: decisions a second of as many goroutines as fit, nine of ten by rows that are kept.
+- load: decisions a second of two goroutines for each processor, nine of ten by rows that are kept.
 - served: the same over HTTP, by 1, 2 and 4 daemons on this machine, each with 16 connections and a TLS certificate in each request: as many as they
   answer, and 10,000 a second of each. Decisions a second, median and 99th percentile in µs, the processor time of a decision in daemons, PostgreSQL
   and clients in µs, the octets that a daemon reads and writes for one, the processors that were busy, and the memory of a daemon and of PostgreSQL.
@@ -43,9 +43,9 @@ import shares  # noqa: E402
 databases = servers()
 
 SCHEMA = "spki"
-# How many names each group has.
+# How many entries each group has, all for its name `members`.
 GROUP = 50
-# How many times the medians may grow from the smallest number of entries to the largest: of misses, and when cold.
+# By what factor the medians may grow from the first number of entries to the last: of misses, and when cold.
 MOST_GROWTH, MOST_COLD = 1.5, 3.0
 # How many daemons are asked, how often a second each (0: as often as it answers), and for how many seconds.
 DAEMONS, RATES, SECONDS = (1, 2, 4), (0, 10_000), 8
@@ -164,6 +164,7 @@ def ask_by_people(server, library, count, program, number, rate, share=0.0):
 @contextlib.contextmanager
 def removing_added_entries(server):
     """A context that removes the entries that are added within it, unless it ends by an exception, which ends the bench."""
+    # (imported here, once `main` has set SPKI_LIBRARY)
     from spki_store_tool.tables import Store
     with contextlib.closing(Store(server.address, SCHEMA)) as store:
         (last,), = store.rows("SELECT max(number) FROM {entries}")
@@ -210,6 +211,7 @@ def faults_of_shares(server, library, count, share, times):
 
 def new_store(server):
     """Makes the tables of a store at a server. Returns the store, which the caller closes."""
+    # (imported here, once `main` has set SPKI_LIBRARY)
     from spki_store_tool.tables import Store
     store = Store(server.address, SCHEMA)
     store.make()
@@ -223,6 +225,7 @@ def fill(store, count, folder):
         file.write(b"(3:acl")
         file.writelines(entries(count))
         file.write(b")")
+    # (imported here, once `main` has set SPKI_LIBRARY)
     from spki_store_tool.transfer import import_list
     begun = time.monotonic()
     import_list(store, path, sys.stderr.isatty())

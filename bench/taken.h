@@ -1,4 +1,5 @@
-/* Counts the memory that a program takes, which is linked with --wrap=malloc, --wrap=realloc and --wrap=free. */
+/* Counts the memory that a program takes by malloc and realloc, but not by calloc. The program is linked with --wrap=malloc, --wrap=realloc and
+ * --wrap=free. */
 #ifndef TAKEN_H
 #define TAKEN_H
 

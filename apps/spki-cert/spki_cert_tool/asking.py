@@ -4,7 +4,7 @@ The library decides. What is here finds the certificates that lead to the key am
 library's reasons mean in these files. A reason is a line of the library's `explain`, as `entry 1 item 3 NoDelegation`: which entry, which item of the
 sequence stops the chain from this entry over all certificates, and the cause. An `Asked` is a question with the certificates that are at hand, and an
 `Answer` the decision about one sequence of them. A case is one text with a whole question. A `Value` is an S-expression: `bytes`, a pair of them with
-a display hint in front, or a list of values.
+a display hint in front, or a list of values. `spki` is imported where it is used, because that loads the library.
 """
 from __future__ import annotations
 
@@ -61,6 +61,7 @@ class Asked:
     def verify(self, key: bytes, message: bytes, value: bytes) -> bool:
         """Whether a signature counts: by the rows of a case, or else because it is valid or its certificate is `unsigned`. The three texts are
         canonical: the key, the certificate, and the value of the signature."""
+        # (here, because it takes a tenth of a second)
         from spki_verify import verify_texts
         if self.accepted is None:
             return message == self.unsigned or verify_texts(key=key, message=message, value=value)

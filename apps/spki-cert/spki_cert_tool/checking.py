@@ -75,7 +75,8 @@ def remarks_on(path: str, moment: bytes, is_given: bool = True) -> tuple[str | N
 
 
 def remarks_on_key_file(path: str, octets: bytes) -> tuple[str, list[Remark]]:
-    """What a file with keys of OpenSSH or PEM, or with a private key, is, in words, and the remarks on it. An encrypted key alone needs no remark."""
+    """What a file with keys of OpenSSH or PEM, or with a private key, is, in words, and the remarks on it. That a private
+    key is encrypted is no remark."""
     has_private = is_private(octets)
     pieces = [(0, octets)] if has_private else pieces_of(octets)
     on_keys, kind, lines = list[Remark](), "a file of keys", Lines(octets)
@@ -126,7 +127,7 @@ def tag_of(node: Node) -> Node:
 
 def probable_mistakes(node: Node, moment: bytes) -> Iterator[tuple[int, str]]:
     """Yields what is legal and probably a mistake in a value: for each the offset in the text, and a remark. A value whose head is in neither table,
-    BY_HEAD nor ALONE, is a request or a tag. A request, rows, two tags, and a signature or a hash alone, have no remarks."""
+    BY_HEAD nor ALONE, is a request if that is `request`, else a tag. A request, rows, two tags, and a signature or a hash alone, have no remarks."""
     kind = BY_HEAD.get(node.head or b"")
     if kind in ("acl", "sequence", "case") or node.head in (b"cert", b"entry"):
         yield from mistakes_in_parts(node, moment)

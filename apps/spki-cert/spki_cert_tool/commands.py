@@ -1,6 +1,7 @@
 """The commands of `spki-cert`. Each is a function of the words that were given, and returns the exit status: DONE, NO, REFUSED, or UNCONFIRMED for
 what is probably a mistake. `given.WORD` is the value of the option or word WORD in `arguments`. Each raises Refused or BadKey for what it does not
-take, which `main` tells on standard error. `write` takes pairs of a path and octets, and writes those without a path to standard output."""
+take, which `main` tells on standard error. `write` takes pairs of a path and octets, and writes those without a path to standard output.
+Modules that few commands need are imported where they are used, so that the others start faster."""
 import argparse
 import base64
 import contextlib
@@ -38,7 +39,8 @@ NOT_SHOWN = "only an access list, a certificate, a sequence or a case is shown; 
 
 
 def key(given: argparse.Namespace) -> int:
-    """Writes the SPKI keys of files, or with --hash their hashes, or with --json both. Of a private key it writes the public one."""
+    """Writes the SPKI keys of files, or with --hash their hashes, or with --json both and the algorithms. Of a private key it writes the
+    public one."""
     keys = [(path, key_at(path, given.number, is_private_too=True)) for path in given.files]
     rows = [{"file": path, "key": on_one_line(key), "hash": on_one_line(hash_of(key)), "algorithm": kind_of(key)} for path, key in keys]
     text = b"".join(text_of(hash_of(key) if given.hash else key) for _, key in keys)

@@ -211,8 +211,8 @@ def list_all(given: argparse.Namespace) -> int:
 
 
 def adopt(given: argparse.Namespace) -> int:
-    """Takes the lines of a file that people have written or changed, and gives it its last line. If it has no digests, or another number of them than
-    its last line says, it is left as it is without --yes, and UNCONFIRMED is returned."""
+    """Takes the lines of a file that people have written or changed, and gives it its last line. If it has no digests, or a last line that does not
+    say how many, it is left as it is without --yes, and UNCONFIRMED is returned."""
     with locked(given.ended):
         lines, has_right_count = lines_by_hand(given.ended)
         rows = rows_of(lines)

@@ -340,9 +340,9 @@ def head_of_text(octets: bytes) -> bytes | None:
 
 def write(*parts: tuple[str | None, bytes], mode: int = 0o644, force: bool = False, edits: bool = False) -> None:
     """Writes octets to files, each by its path, once it is known that none of them is refused. Those with None or `-` as path go to standard output
-    afterwards. Each file is written whole or not at all. With `force` it may be there already, and with `edits` it may be one that was read: then it
-    keeps its mode and its owner. `mode` is that of a new file. Raises Refused, if nothing was written, or Failed: files before the one that it names
-    are written."""
+    afterwards. Each file is written whole or not at all. With `force` it may be there already, and with `edits` it may be one that was read. One
+    that was there keeps its mode and its owner, and a new one gets `mode`. Raises Refused, if nothing was written, or Failed: files before the
+    one that it names are written."""
     targets = [(path, *target_of(path, octets, force, edits), octets) for path, octets in parts if path is not None and path != "-"]
     places = [place for _, place, _, _ in targets]
     if len(set(places)) < len(places):
@@ -359,6 +359,7 @@ def replace(place: str, octets: bytes, mode: int, before: os.stat_result | None)
     """Puts a file in its place, by a temporary one beside it. `before` is the state of the file that is replaced, which keeps its mode, its owner and
     its attributes. For None there is none, and the new file has `mode`. A signal waits until the file is there. Raises OSError if the file is as
     before, and Failed, which says what it is, after it was put in its place or if the temporary one stays."""
+    # (here, so that commands that write no file start faster)
     import tempfile
     signals_before, temporary, state = signal.pthread_sigmask(signal.SIG_BLOCK, signal.valid_signals()), "", "as before"
     try:
@@ -405,7 +406,8 @@ def copy_attributes(place: str, before: os.stat_result, handle: int) -> None:
 
 @contextlib.contextmanager
 def as_far_as_permitted() -> Iterator[None]:
-    """Passes over an error of the block if it says that the file system or this user cannot keep an attribute."""
+    """Passes over an error of the block if it says that the file system or this user cannot keep an attribute, or that the
+    attribute is gone."""
     try:
         yield
     except OSError as why:

@@ -132,7 +132,7 @@ def read_numbered(name: str, read: Reader, nodes: list[Node], first: int = 1) ->
 
 
 def read_list(node: Node) -> None:
-    """Reads an access list. As all functions `read_..` here, raises Wrong where the program `spki` refuses it, with its name of the part."""
+    """Reads an access list. As all that READERS has, raises Wrong where the program `spki` refuses it, with its name of the part."""
     read_part("acl 0", partial(Members, head=b"acl", what="the access list"), node)
     entries = node.rest
     if entries and entries[0].head == b"version":

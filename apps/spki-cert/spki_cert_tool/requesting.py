@@ -20,6 +20,7 @@ ADDRESS = re.compile(r"https?://(?:(?![/?#@])[!-~])+(?:[/?][!\"$-~]*)?")
 def request(given: argparse.Namespace) -> int:
     """Prints the fields of a signed request, or with --curl has curl send it. Tells it if others have access to the private key. Returns the exit
     status, with --curl that of curl. Raises Refused or BadKey."""
+    # (here, since only this command needs it)
     from spki_http import Signer
     method = given.method or ("PUT" if given.body is not None else "GET")
     body = octets_of(given.body, most=-1) if given.body is not None else None

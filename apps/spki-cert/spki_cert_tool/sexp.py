@@ -13,6 +13,7 @@ PRINTED = re.compile(rb"[ -~]*\Z")
 
 def read(octets: bytes) -> Value:
     """The value of a canonical text. Raises Wrong if it is none."""
+    # (here, since `forms` imports this module)
     from .forms import Parser
     return Parser(octets, is_canonical=True).whole().value
 

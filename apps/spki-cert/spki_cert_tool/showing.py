@@ -44,8 +44,8 @@ class Labels:
 
     def add_path(self, path: str) -> None:
         """Takes the public keys of a file, or of the files of a folder that are not hidden: lines of OpenSSH with their comments, as authorized_keys
-        has them, or one key. A key without a comment is called by the name of its file. What is no public key is left out, and of a file what is
-        behind its first MiB. Raises Refused for a file that cannot be read."""
+        has them, or one key. A key without a comment is called by the name of its file without its suffix. What is no public
+        key is left out, and of a file what is behind its first MiB. Raises Refused for a file that cannot be read."""
         files = sorted(filter(os.path.isfile, glob.glob(f"{glob.escape(path)}/*"))) if os.path.isdir(path) else [path]
         for file in files:
             octets = octets_of(file)
