@@ -61,6 +61,7 @@ class OfCalls(unittest.TestCase):
 
     @classmethod
     def setUpClass(cls) -> None:
+        # (a status behind all answers is left out: it is 2 where a row's answer is `refused Memory`)
         cls.answers = dict(zip(cls.rows, call_rows.answers(built.existing(cls.path), cls.rows.values())))
 
     def check_row(self, name: str) -> None:

@@ -361,14 +361,11 @@ class Limits(OfSite):
 
     def test_daemon_that_hangs(self) -> None:
         """Where the daemon does not answer, a client sees 500 after proxy_read_timeout."""
-        def is_stopped() -> bool:
-            """Whether each thread of the daemon is stopped. Until then one may still answer."""
-            threads = glob.glob(f"/proc/{self.site.daemon.pid}/task/*/stat")
-            return all(pathlib.Path(thread).read_text().rpartition(")")[2].split()[0] == "T" for thread in threads)
-
         self.site.daemon.send_signal(signal.SIGSTOP)
+        threads = [pathlib.Path(path) for path in glob.glob(f"/proc/{self.site.daemon.pid}/task/*/stat")]
         try:
-            waits_for("the daemon is stopped", is_stopped)
+            # (until each thread is stopped, one may still answer)
+            waits_for("the daemon is stopped", lambda: all(thread.read_text().rpartition(")")[2].split()[0] == "T" for thread in threads))
             self.assertEqual(self.site.status("ann", "GET", "/web/index.html"), 500)
         finally:
             self.site.daemon.send_signal(signal.SIGCONT)
