@@ -294,7 +294,7 @@ def changed(chance: random.Random, recipe: Recipe) -> Recipe:
         return replace(recipe, links=(*links[:at], changed_link(chance, links[at]), *links[at + 1:]))
     if part in ("link", "links"):
         at = chance.randrange(len(links) + 1)
-        if links and (len(links) == 4 or chance.random() < 0.3):
+        if links and (len(links) >= 4 or chance.random() < 0.3):
             # (one is removed, the first if `at` is behind the last)
             removed = at % len(links)
             return replace(recipe, links=(*links[:removed], *links[removed + 1:]))
