@@ -217,9 +217,9 @@ spki = {{ path = "{TOP}/bindings/rust" }}
 
 
 def through_rust(driver):
-    """Yields (name of a limit, value): the ratio of a decision through Rust to the calls in C, and how many blocks of memory it takes more. Yields
-    nothing without `cargo` or valgrind. The same blocks cost up to 3 percent more or less as the C library keeps few or many that were freed. So the
-    mean for several numbers of them is taken."""
+    """Yields (name of a limit, value): the ratio of a question opened, listed and decided through Rust to the same in C, and how many blocks of
+    memory it takes more. Yields nothing without `cargo` or valgrind. The same blocks cost up to 3 percent more or less as the C library keeps few or
+    many that were freed. So the mean for several numbers of them is taken."""
     if shutil.which("cargo") is None or shutil.which("valgrind") is None:
         print("cargo or valgrind is not there (Debian: cargo, valgrind): the decision through Rust is left out")
         return
@@ -227,7 +227,7 @@ def through_rust(driver):
     ways = [[driver.program, "ask", path], [build_in_rust(driver), path]]
     in_c, in_rust = (sum(count_one_call(counted_with_cache(blocks), words) for blocks in CACHES) / len(CACHES) for words in ways)
     blocks_in_c, blocks_in_rust = (count_one_call(counted_allocations, words) for words in ways)
-    print(f"signatures listed and a decision: in C {in_c:,.0f} instructions and {blocks_in_c:.0f} blocks, through Rust {in_rust:,.0f} and "
+    print(f"a question opened, listed and decided: in C {in_c:,.0f} instructions and {blocks_in_c:.0f} blocks, through Rust {in_rust:,.0f} and "
           f"{blocks_in_rust:.0f}", flush=True)
     yield "Rust", in_rust / in_c
     yield "blocks more through Rust", blocks_in_rust - blocks_in_c

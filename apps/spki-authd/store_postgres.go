@@ -199,8 +199,8 @@ func (l *link) ask(number int, text string, use func(row []driver.Value) error, 
 	return err
 }
 
-// stateIn returns the state that a row begins with, in stateColumns. It has no token yet. It fails with errVersion if the store has another version, or
-// if one of these columns is no number.
+// stateIn returns the state that a row begins with, in stateColumns. Its token, the time of the last change, is left empty: those who need it set it from
+// another column. It fails with errVersion if the store has another version, or if one of these columns is no number.
 func stateIn(row []driver.Value) (storeState, error) {
 	var numbers [4]int64
 	for place := range numbers {

@@ -158,7 +158,8 @@ impl<N: TakeNonce> Requests<N> {
         field.unwrap_or(b"(sequence)").to_vec()
     }
 
-    /// Tests the tag, the length of the nonce, and the times at `now`, in seconds since 1970. Fails with the first of these that is wrong.
+    /// Tests the tag, the length of the nonce, and the times at `now`, in seconds since 1970. Fails with the first of these that is wrong. The times of
+    /// `input` have at most 15 digits, so that no sum overflows. `now` is the caller's, and may be any number.
     fn check_parameters(&self, input: &Input, now: u64) -> Result<(), Unproved> {
         let faults = [
             (input.tag != fields::TAG, Unproved::OtherTag),
