@@ -474,8 +474,8 @@ func TestManagerThatIsGone(t *testing.T) {
 	}
 }
 
-// TestCommandLines runs the program with several command lines, and compares the status and what is printed. The status is 1 after a failure, also of
-// printing, and 2 for a wrong command line.
+// TestCommandLines runs the program with several command lines, and compares the status. What is printed must contain a text; an empty one tests nothing.
+// The status is 1 after a failure, also of printing, and 2 for a wrong command line.
 func TestCommandLines(t *testing.T) {
 	list, bad := writeFile(t, "acl", "(acl (entry (public-key (test a)) (tag (*))))"), writeFile(t, "bad", "(acl (entry))")
 	config := writeFile(t, "config", strings.Replace(strings.Replace(leastConfig, "/acl", list, 1), `"/log"`, `"`+filepath.Join(t.TempDir(), "log")+`"`, 1))

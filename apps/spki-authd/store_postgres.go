@@ -246,9 +246,10 @@ func requireState(hasState bool, err error) error {
 	return err
 }
 
-// changesSince returns the changes after the one with a number, and the time of that one. Behind the state a row has the number, the time, the kind
-// and the digest of a change. The statement also reads the change with that number, and one more than a poll takes, which shows whether there are
-// more. It fails as pool.ask does, or with errVersion.
+// changesSince returns the changes after the one with a number. `first` is the time of that one, or 0 if it is gone; the token of the state, which tells
+// one history from another, is the time of the last change that is read; `isCut` says that there are more. Behind the state a row has the number, the
+// time, the kind and the digest of a change. The statement also reads the change with that number, and one more than a poll takes. It fails as pool.ask
+// does, or with errVersion.
 func (p *pool) changesSince(number int64) (result pollResult, err error) {
 	hasState, count := false, 0
 	err = p.ask(askChangesSince, func(row []driver.Value) (err error) {

@@ -1,5 +1,5 @@
 """Tests what nginx and Caddy change of signed requests that they pass on: docs/SIGNATURES.md, "Behind a proxy", says it. Each listens at a socket of
-its own, so that no port is taken."""
+its own, so that it takes no port."""
 from __future__ import annotations
 
 import contextlib
