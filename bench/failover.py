@@ -161,7 +161,7 @@ class Site:
 
     def fail_over(self, wait):
         """Removes an entry, has the primary fail, and promotes the replica that has received most after `wait` seconds. Returns four times of
-        `time.monotonic`: when the entry was removed, the primary failed, and the promotion began and ended."""
+        `time.monotonic`: when the entry was removed, the primary failed, the promotion began, and both replicas had been told."""
         self.store.remove(self.number)
         removed = time.monotonic()
         self.fail()

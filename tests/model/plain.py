@@ -32,5 +32,5 @@ def canonical(plain_value: Any) -> bytes:
 
 
 def on_one_line(plain_value: Any) -> str:
-    """The printed text of a plain value, which has no line breaks."""
+    """A plain value in advanced form, as messages show it: in one line of ASCII."""
     return printed(value_of(plain_value)).decode()

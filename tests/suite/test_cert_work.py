@@ -193,13 +193,14 @@ class OfMessages(unittest.TestCase):
     """Messages about a long request or word."""
 
     def test_long_requests(self) -> None:
-        """`lacks` says what a tag lacks, and shows only the first 400 octets of a long request, or returns None if it lacks nothing. For a set of 900
-        strings that lacks it there is one message, which may have 8 octets for each string of the set, and 1,000 more."""
+        """`lacks` says what a tag lacks, and shows only the first 400 octets of a long request, or returns None if it lacks nothing. A set of 900
+        strings without the request has one message, of at most 8 octets for each string and 1,000 more: `in_short` cuts two texts, and not 900."""
         from spki_cert_tool import tag_words
         long = b"m" * 100_000
         wide: Any = [b"*", b"set", *[b"%03d" % at for at in range(900)]]
         with mock.patch.object(tag_words, "in_short", wraps=tag_words.in_short) as in_short:
-            message = tag_words.lacks([b"ftp", wide], [b"ftp", long]) or ""
+            message = tag_words.lacks([b"ftp", wide], [b"ftp", long])
+        assert message is not None
         self.assertLessEqual(in_short.call_count, 2)
         self.assertLess(len(message), 900 * 8 + 1000)
         self.assertEqual(tag_words.lacks(b"a", long), f"the request is `{'m' * 400}..`, and the tag has `a`")

@@ -150,7 +150,7 @@ class Sites(OfSite):
 
     def test_the_second_lock_denies_alone(self) -> None:
         """Where the first lock, lines of the example, is broken, the second one denies: nginx has the folder of the files only after a yes of the
-        daemon. nginx answers for a folder itself, by the error page that Ann may read, so `/web/` is left out."""
+        daemon. `/web/` is left out: for a folder nginx may answer by an error page that the client may read, and that is 200."""
         for name, of_all, line in LOCKS:
             self.restart_nginx(of_all, "", without=line)
             with self.subTest(name):

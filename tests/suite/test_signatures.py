@@ -2,7 +2,7 @@
 of requests. It must answer the rows of the table that the bindings read (`test_spki_http.rows`) as they say, and mutated rows as that in Python does.
 
 A row has a request and the answer: `valid`, or the name of the refusal, such as `nonce-seen`. A request is signed over its method, host, path and
-some fields. The caller of the verifier compares the digest of its body."""
+some fields. The caller of the verifier in C compares the digest of its body; that in Python does so itself."""
 from __future__ import annotations
 
 import dataclasses
