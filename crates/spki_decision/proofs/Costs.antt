@@ -5,11 +5,12 @@ use Rattle.std.proofs.lemmas.Bool.{both_ways}
 use Rattle.std.specs.List.{AllZip}
 use Rattle.spki_cert.specs.declared.{entry.Entry.{Entry}, principal.Policy.{Policy}}
 use Rattle.spki_cert.specs.declared.certificate.SeqItem.{SeqItem, TheVariants.{Key, DoHash, Auth, Name, Signature}}
+use Rattle.spki_tag.specs.Request.{Request}
 use Rattle.spki_cert.specs.Cost.{names_weight, items_weight}
 use Rattle.spki_reduce.specs.{Reduction.{Tuple, step_tuple}, Chain.{tuples_of, Takes}, declared.tuple.Step.{Step}}
 use Rattle.spki_case.specs.Case.{Case, Verified, Shown, certificates_from, certificates, keys_of}
 use Rattle.spki_decision.specs.CertificateTests.{PassesTestsAs, AreShown, Signed, asked_of, asked_in, asked, before_all, every}
-use Rattle.spki_decision.specs.{Cost.{content_weight, path_weight, contents_weight, paths_weight, tuples_weight, AreTicksOfEntry}, Spared.{is_spared}}
+use Rattle.spki_decision.specs.{Cost.{content_weight, path_weight, contents_weight, paths_weight, tuples_weight, content_tested, contents_tested, AreTicksOfEntry}, Spared.{is_spared}}
 use Rattle.spki_decision.proofs.{ChainRequirements.{last_of}, StepNodes.{unspared}}
 
 -- ---- names
@@ -48,6 +49,17 @@ contents_from (s ∷ steps) (suc i) step below here = contents_from steps i step
 pub contents_first : (steps : List Step) (i : ℕ) (step : Step) → i < length steps → step ≡ get_or steps i step
     → contents_weight (tuples_of (drop i steps)) ≡ content_weight (step_tuple step) + contents_weight (tuples_of (drop (i + 1) steps))
 contents_first steps i step below here = simp unary_clauses (contents_from steps i step below here)
+
+tested_from : (g : Request) (steps : List Step) (i : ℕ) (step : Step) → i < length steps → step ≡ get_or steps i step
+    → contents_tested g (tuples_of (drop i steps)) ≡ content_tested g (step_tuple step) + contents_tested g (tuples_of (drop (suc i) steps))
+tested_from g [] i step below here = absurd (omega (arith, below))
+tested_from g (s ∷ steps) zero step below here = omega (arith, ap (λ (x : Step). content_tested g (step_tuple x)) here)
+tested_from g (s ∷ steps) (suc i) step below here = tested_from g steps i step (omega (arith, below)) here
+
+-- the same for what is tested at least
+pub tested_first : (g : Request) (steps : List Step) (i : ℕ) (step : Step) → i < length steps → step ≡ get_or steps i step
+    → contents_tested g (tuples_of (drop i steps)) ≡ content_tested g (step_tuple step) + contents_tested g (tuples_of (drop (i + 1) steps))
+tested_first g steps i step below here = simp unary_clauses (tested_from g steps i step below here)
 
 -- ---- the certificates of a sequence
 

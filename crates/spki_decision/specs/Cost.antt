@@ -1,7 +1,7 @@
 -- How much is read of the tuples of certificates when they are tested, and the ticks of an entry's chain.
 use Rattle.std.specs.Prelude.{◌≡◌, ℕ, ◌+◌, ◌<◌, ◌≤◌, ◌⊎◌, List, [], ◌∷◌, Option, None, true, false}
 use Rattle.spki_cert.specs.{declared.{entry.Entry.{Entry}, principal.Policy.{Policy}}, Cost.{names_weight, principal_weight}}
-use Rattle.spki_tag.specs.{Tag.{tags}, Cost.{weight_all}}
+use Rattle.spki_tag.specs.{Tag.{tags}, Request.{Request}, Cost.{weight_all, tested_all}}
 use Rattle.spki_reduce.specs.{Reduction.{Tuple, five, four, tags_of, entry_tuple}, Chain.{AreTicksOfSteps, TakesFirstSteps}}
 use Rattle.spki_decision.specs.{Spared.{is_spared}, declared.reduction.EntryFold.{EntryFold, TheVariants.{Done, Stopped}}}
 
@@ -9,9 +9,9 @@ use Rattle.spki_decision.specs.{Spared.{is_spared}, declared.reduction.EntryFold
 abbrev pub content_weight : Tuple → ℕ
 content_weight t = 1 + weight_all (tags (tags_of t))
 
--- the weight of a step to its key: two for the tuple, and that of its subject
+-- the weight of a step to its key: one for the tuple, another for the name that it defines, and that of its subject
 abbrev pub path_weight : Tuple → ℕ
-path_weight (five t) = 2 + (names_weight t.names + principal_weight t.principal)
+path_weight (five t) = 1 + (names_weight t.names + principal_weight t.principal)
 path_weight (four t) = 2 + (names_weight t.names + principal_weight t.principal)
 
 -- the first of these weights for several tuples
@@ -22,6 +22,15 @@ contents_weight (t ∷ ts) = content_weight t + contents_weight ts
 abbrev pub paths_weight : List Tuple → ℕ
 paths_weight [] = 0
 paths_weight (t ∷ ts) = path_weight t + paths_weight ts
+
+-- what is tested at least of a tuple's tags (see `tested_weight`) and windows: one for the tuple, and that of its tags
+abbrev pub content_tested : Request → Tuple → ℕ
+content_tested g t = 1 + tested_all (tags (tags_of t)) g
+
+-- the same for several tuples
+abbrev pub contents_tested : Request → List Tuple → ℕ
+contents_tested g [] = 0
+contents_tested g (t ∷ ts) = content_tested g t + contents_tested g ts
 
 abbrev pub tuples_weight : List Tuple → ℕ
 tuples_weight ts = contents_weight ts + paths_weight ts

@@ -4,13 +4,14 @@
 //! the client's key. The request is in the entry's tag and in each certificate's tag. The moment is within the entry's window and within
 //! each certificate's window. The certificates are tested once for all entries.
 
-ghost use Rattle.std.specs.Prelude.{◌≡◌, ◌↔◌, ◌≤◌, ◌<◌, ◌+◌, ◌++◌, ◌∷◌, [], true, List, length, IsTrue, IfOk};
+ghost use Rattle.std.specs.Prelude.{◌≡◌, ◌↔◌, ◌≤◌, ◌<◌, ◌+◌, ◌++◌, ◌∷◌, [], true, List, IsTrue, IfOk, IfSome};
 ghost use Rattle.spki_case.specs.View.{model};
-ghost use Rattle.spki_cert.specs.{declared.window.Window.{Window}, Cost.{entry_weight}};
+ghost use Rattle.spki_cert.specs.{declared.window.Window.{Window}, Cost.{subject_weight, entry_weight}};
+ghost use Rattle.spki_tag.specs.Cost.{tested_weight};
 ghost use Rattle.spki_reduce.specs.Reduction.{Tuple, tags_of, windows_of, step_tuple, in_each, within_each};
 ghost use Rattle.spki_reduce.specs.Chain.{tuples_of, all_tags, all_windows};
 ghost use Rattle.spki_decision.specs.{Granted.{Supported}, Requirements.{IsChainRequirement}, Until.{IsLeastEnd, HasEnd, IsUntil}};
-ghost use Rattle.spki_decision.specs.Cost.{content_weight, contents_weight, tuples_weight};
+ghost use Rattle.spki_decision.specs.Cost.{content_weight, contents_weight, paths_weight, tuples_weight, content_tested, contents_tested};
 
 use crate::required_subject::{RequiredSubject, required_subject};
 use spki_case::Case;
@@ -69,8 +70,9 @@ impl<'a> ChainRequirement<'a> {
 
     /// What certificates require of an entry, as `of`. The operations are added to `ticks`, a count that exists only in contracts. A tick is a
     /// certificate, a tag or a name that is looked at, or an octet that is compared. There are at most three for each certificate (for its
-    /// tag and window, for its step, and for a name that it defines), and one for each tag, name and octet in its tag and its subject.
-    /// `prove_well_formed` is only for the prover.
+    /// tag and window, for its step, and for a name that it defines), and one for each tag, name and octet in its tag and its subject. If some
+    /// subject is enough, there are at least as many, where of a tag only what has to be tested counts (`tested_weight`). `prove_well_formed`
+    /// is only for the prover.
     ///
     /// # Errors
     ///
@@ -84,6 +86,8 @@ impl<'a> ChainRequirement<'a> {
         ensures answer { IfOk result (IsChainRequirement (model case.now) (tuples_of steps.now)) }
         ensures end { IfOk result (HasEnd (tuples_of steps.now)) }
         ensures cost { ticks.new ≤ ticks.old + tuples_weight (tuples_of steps.now) }
+        ensures tested { IfOk result (λ made. IfSome made.required (λ subject.
+            ticks.old + contents_tested case.now.request (tuples_of steps.now) + paths_weight (tuples_of steps.now) ≤ ticks.new)) }
         ensures grows { ticks.old ≤ ticks.new }
     {
         case.request.prove_well_formed();
@@ -122,7 +126,8 @@ impl<'a> ChainRequirement<'a> {
 
     /// Whether an entry and the certificates grant what the case asks, as `grants`. `case` must be the one that `of` was called with. The
     /// operations are added to `ticks`, a count that exists only in contracts. A tick is the entry, or a name or a tag in it that is looked
-    /// at, or an octet of it that is compared. Making the digest of a key is not counted.
+    /// at, or an octet of it that is compared. If the answer is true, there is at least one for the entry, each of its names, each octet of
+    /// its subject, and what has to be tested of its tag (`tested_weight`). Making the digest of a key is not counted.
     pub fn grants_counted<L: Ledger>(
         &self,
         entry: &Entry,
@@ -132,6 +137,8 @@ impl<'a> ChainRequirement<'a> {
         ensures answer { (tuples : List Tuple) → IsChainRequirement (model case.now) tuples self.now
             → IsTrue result ↔ Supported (model case.now) tuples entry.now }
         ensures cost { ticks.new ≤ ticks.old + entry_weight entry.now }
+        ensures tested { IsTrue result
+            → ticks.old + 1 + subject_weight entry.now.subject + tested_weight entry.now.tag case.now.request ≤ ticks.new }
         ensures grows { ticks.old < ticks.new }
     {
         ticks.tick();
@@ -168,7 +175,7 @@ fn all_contain<L: Ledger>(
     ensures end { IsTrue result → (windows : List Window) → IsLeastEnd windows until.old
         → IsLeastEnd (windows ++ all_windows (tuples_of steps.now)) until.new }
     ensures cost { ticks.new ≤ ticks.old + contents_weight (tuples_of steps.now) }
-    ensures each { IsTrue result → ticks.old + length steps.now ≤ ticks.new }
+    ensures tested { IsTrue result → ticks.old + contents_tested case.now.request (tuples_of steps.now) ≤ ticks.new }
     ensures grows { ticks.old ≤ ticks.new }
 {
     for step in steps {
@@ -217,6 +224,7 @@ fn contains<L: Ledger>(step: &Step, case: &Case, ticks: &mut Ticks<L>) -> bool
     ensures answer { IsTrue result ↔ ((in_each case.now.request (tags_of (step_tuple step.now)) ≡ true)
         × (within_each case.now.moment (windows_of (step_tuple step.now)) ≡ true)) }
     ensures cost { ticks.new ≤ ticks.old + content_weight (step_tuple step.now) }
+    ensures tested { ticks.old + content_tested case.now.request (step_tuple step.now) ≤ ticks.new }
     ensures grows { ticks.old < ticks.new }
 {
     ticks.tick();

@@ -44,6 +44,7 @@ pub(crate) fn required_subject<'a, L: Ledger>(
 ) -> Result<Option<RequiredSubject<'a>>, AllocError>
     ensures answer { IfOk result (IsRequiredBy policy (tuples_of steps.now) key.now) }
     ensures cost { ticks.new ≤ ticks.old + paths_weight (tuples_of steps.now) }
+    ensures exact { IfOk result (λ required. IfSome required (λ subject. ticks.new ≡ ticks.old + paths_weight (tuples_of steps.now))) }
     ensures grows { ticks.old ≤ ticks.new }
 {
     let mut required = RequiredSubject {
@@ -73,6 +74,7 @@ impl<'a> RequiredSubject<'a> {
     ) -> bool
         ensures answer { IsTrue result ↔ Meets policy self.now subject.now.principal subject.now.names propagate }
         ensures cost { ticks.new ≤ ticks.old + subject_weight subject.now }
+        ensures exact { IsTrue result → ticks.new ≡ ticks.old + subject_weight subject.now }
         ensures grows { ticks.old ≤ ticks.new }
     {
         (propagate || !self.delegation)
@@ -91,6 +93,7 @@ impl<'a> RequiredSubject<'a> {
     ) -> Result<Option<RequiredSubject<'a>>, AllocError>
         ensures answer { IfOk result (IsRequiredBefore policy (step_tuple step.now) self.entry) }
         ensures cost { ticks.new ≤ ticks.old + path_weight (step_tuple step.now) }
+        ensures exact { IfOk result (λ required. IfSome required (λ subject. ticks.new ≡ ticks.old + path_weight (step_tuple step.now))) }
         ensures grows { ticks.old < ticks.new }
     {
         ticks.tick();
@@ -113,6 +116,7 @@ impl<'a> RequiredSubject<'a> {
     ) -> Option<RequiredSubject<'a>>
         ensures answer { IsRequiredBefore policy (five (five_tuple next.now)) self.entry result }
         ensures cost { ticks.new ≤ ticks.old + subject_weight next.now.subject }
+        ensures exact { IfSome result (λ required. ticks.new ≡ ticks.old + subject_weight next.now.subject) }
         ensures grows { ticks.old ≤ ticks.new }
     {
         let is_met = self.is_met_by(&next.subject, next.propagate, policy, ticks);
@@ -143,6 +147,8 @@ impl<'a> RequiredSubject<'a> {
     ) -> Result<Option<RequiredSubject<'a>>, AllocError>
         ensures answer { IfOk result (IsRequiredBefore policy (four (four_tuple definition.now)) self.entry) }
         ensures cost { ticks.new ≤ ticks.old + 1 + subject_weight definition.now.subject }
+        ensures exact { IfOk result (λ required. IfSome required (λ subject.
+            ticks.new ≡ ticks.old + 1 + subject_weight definition.now.subject)) }
         ensures grows { ticks.old ≤ ticks.new }
     {
         if !is_name_of(&definition.subject.principal, &self.key, policy, ticks) {
@@ -173,6 +179,7 @@ fn names_after<'a, L: Ledger>(
     ensures some { IfSome result (λ rest. names.entry ≡ front.now ++ rest) }
     ensures none { IfNone result ((rest : List (List ℕ)) → names.entry ≢ front.now ++ rest) }
     ensures cost { ticks.new ≤ ticks.old + names_weight front.now }
+    ensures exact { IfSome result (λ rest. ticks.new ≡ ticks.old + names_weight front.now) }
     ensures grows { ticks.old ≤ ticks.new }
 {
     let mut rest = names;
@@ -203,6 +210,7 @@ fn has_first(names: &Names, name: &Octets) -> bool
 fn are_same_names<L: Ledger>(one: &Names, other: &Names, ticks: &mut Ticks<L>) -> bool
     ensures answer { IsTrue result ↔ (one.now ≡ other.now) }
     ensures cost { ticks.new ≤ ticks.old + names_weight one.now }
+    ensures exact { IsTrue result → ticks.new ≡ ticks.old + names_weight one.now }
     ensures grows { ticks.old ≤ ticks.new }
 {
     if one.len() != other.len() {

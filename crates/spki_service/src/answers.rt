@@ -232,8 +232,8 @@ impl<'a> PreparedQuestion<'a> {
         }
     }
 
-    /// Puts what each entry becomes into `sink`, if all listed signatures are valid. If a certificate fails another test, returns the first
-    /// that does, and puts nothing. Returns None if all certificates pass. Err is `TooLarge` or `Memory`, as for `reduce_into`; then drop what
+    /// Puts what each entry becomes into `sink`, on the assumption that all listed signatures are valid: `reduce_into` tests the marks before. If
+    /// a certificate fails another test, returns the first that does, and puts nothing. Returns None if all certificates pass. Err is `TooLarge` or `Memory`, as for `reduce_into`; then drop what
     /// `sink` has taken.
     fn put_folds<S: FoldSink<'a>>(
         &self,

@@ -124,15 +124,17 @@ impl Guard {
 
     /// Reads the parts of a question, each by itself, in the order sequence, key, request, moment, and examines the certificates:
     /// tests for each that the issuer's key is known, that the signature has the certificate's digest, and that its signer names this key. These are
-    /// the tests of `Stop` that need no verifier. In the result no signature is marked as valid. `texts` is what `Guard::texts` returned.
+    /// the tests of `Stop` that need no verifier. A certificate that fails one of them is no error here: what is asked of the result later tells
+    /// it. In the result no signature is marked as valid. `texts` is what `Guard::texts` returned.
     ///
     /// # Errors
     ///
-    /// `TooLong` exactly if the texts together have more octets than this guard's limit. `Guard::texts` tests this too, but perhaps another
-    /// guard, with a higher limit, made the texts. Otherwise the first part that cannot be read is named: `Form` if its text has no value
-    /// within the limits of its form, otherwise `Sequence`, `Key`, `Request` or `Moment` with the fault of its value. If all can be read:
-    /// `TooManyCertificates` or `TooManyWords`, tested in this order, if there are more certificates, or more strings of the request, than
-    /// the guard's limit. No certificate is examined before these tests. `Memory` if memory ran out.
+    /// `TooLong` exactly if the question's texts, in the forms in which `Guard::texts` got them, together have more octets than this guard's
+    /// limit. `Guard::texts` tests this too, but perhaps another guard, with a higher limit, made the texts. Otherwise the first part that
+    /// cannot be read is named: `Form` if its text has no value within the limits of its form, otherwise `Sequence`, `Key`, `Request` or
+    /// `Moment` with the fault of its value. If all can be read: `TooManyCertificates` or `TooManyWords`, tested in this order, if there are
+    /// more certificates, or more strings of the request, than the guard's limit. No certificate is examined before these tests. `Memory` if
+    /// memory ran out.
     pub fn ask<'a>(
         &'a self,
         alloc: Global,
@@ -184,7 +186,7 @@ impl Guard {
     {
         match key {
             None => Ok(Vec::new(alloc)),
-            Some(key) => self.index.found(alloc, key, self.policy),
+            Some(key) => self.index.numbers_for(alloc, key, self.policy),
         }
     }
 

@@ -61,8 +61,8 @@ impl EntryIndex {
         })
     }
 
-    /// The algorithms by which `found` needs digests of a key: those of the hashes in the index that may name keys under the policy.
-    /// `Guard::ask` makes these digests when it reads a question. The keys that `found` is called with carry them, so it does not make them
+    /// The algorithms by which `numbers_for` needs digests of a key: those of the hashes in the index that may name keys under the policy.
+    /// `Guard::ask` makes these digests when it reads a question. The keys that `numbers_for` is called with carry them, so it does not make them
     /// again. There is no contract: a digest that is missing costs time and changes no answer.
     pub(crate) fn algorithms(&self, policy: Policy) -> Algorithms {
         Algorithms {
@@ -79,7 +79,7 @@ impl EntryIndex {
     /// # Errors
     ///
     /// `AllocError` if memory ran out.
-    pub(crate) fn found(
+    pub(crate) fn numbers_for(
         &self,
         alloc: Global,
         key: &Key,
@@ -89,14 +89,26 @@ impl EntryIndex {
             → IfOk result (λ numbers. numbers.items ≡ numbers_from 1 (λ e. names policy e.subject.principal key.now) es) }
     {
         let own = numbers_of(alloc, self.rows_at(&self.keys, key.as_slice()))?;
-        let first = merge_numbers(alloc, own, self.admitted(HashAlg::Sha1, key, policy))?;
-        let second = merge_numbers(alloc, first, self.admitted(HashAlg::Sha256, key, policy))?;
-        merge_numbers(alloc, second, self.admitted(HashAlg::Sha512, key, policy))
+        let first = merge_numbers(
+            alloc,
+            own,
+            self.rows_if_admitted(HashAlg::Sha1, key, policy),
+        )?;
+        let second = merge_numbers(
+            alloc,
+            first,
+            self.rows_if_admitted(HashAlg::Sha256, key, policy),
+        )?;
+        merge_numbers(
+            alloc,
+            second,
+            self.rows_if_admitted(HashAlg::Sha512, key, policy),
+        )
     }
 
     /// The rows of the entries whose principal is the key's hash by the algorithm. Empty if the policy lets no such
     /// hash name a key.
-    fn admitted(&self, alg: HashAlg, key: &Key, policy: Policy) -> &[Row]
+    fn rows_if_admitted(&self, alg: HashAlg, key: &Key, policy: Policy) -> &[Row]
         ensures { IsInOrder self.now.principals (rows_by self.now (Some alg)) → map row_number result.now
             ≡ (if admits policy alg then numbers_with self.now.principals (digest_of alg key.now) (rows_by self.now (Some alg)) else []) }
     {

@@ -1,7 +1,7 @@
 //! Whether a tag contains a request. `ticks` counts the work, and exists only in contracts.
 
-ghost use Rattle.std.specs.Prelude.{◌≡◌, ◌≤◌, ◌+◌, ◌<◌, IsTrue, false, length};
-ghost use Rattle.spki_tag.specs.{Tag.{tags, contains, contain_each, some_contains}, Cost.{weight, weight_all}};
+ghost use Rattle.std.specs.Prelude.{◌≡◌, ◌≤◌, ◌+◌, ◌<◌, IsTrue, if◌then◌else◌};
+ghost use Rattle.spki_tag.specs.{Tag.{tags, contains, contain_each, some_contains}, Cost.{weight, weight_all, tested_weight, tested_each, tested_all, tested_least}};
 ghost use Rattle.spki_tag.specs.Request as spec;
 
 use crate::request::{Ground, GroundNode};
@@ -39,11 +39,13 @@ impl Tag {
     /// A string, prefix or range that is tested on a string also adds one for each of its own octets, and a list that is tested on a list one
     /// for each octet of its own head, compared or not. So it adds at most the weight of the tag, whatever the request is. The weight is the
     /// number of tags in the tag, itself included, plus the octets of their strings, limits and heads. For a tag that was read it is at
-    /// most the number of octets of the canonical text that was read (law `read_weight`).
+    /// most the number of octets of the canonical text that was read (law `read_weight`). It adds at least the weight of what has to be tested
+    /// for this answer (`tested_weight`).
     #[cycle(holds)]
     pub fn holds_counted<L: Ledger>(&self, request: &Ground, ticks: &mut Ticks<L>) -> bool
         ensures answer { result ≡ contains self.now request.now }
         ensures cost { ticks.new ≤ ticks.old + weight self.now }
+        ensures tested { ticks.old + tested_weight self.now request.now ≤ ticks.new }
         ensures grows { ticks.old < ticks.new }
     {
         ticks.tick();
@@ -67,13 +69,13 @@ impl Tag {
 
 /// Whether each tag contains the request at the same place: `members` are those of a list that is a tag, `requests` those of a list that is
 /// a request. False if there are fewer requests than tags. Further requests may be anything. The work is added to `ticks`, as by
-/// `holds_counted`: at most the weights of the tags, and at least one for each tag if the answer is true.
+/// `holds_counted`: at most the weights of the tags, and if the answer is true at least what has to be tested of each.
 #[cycle(holds)]
 fn each_holds<L: Ledger>(members: &[Tag], requests: &[Ground], ticks: &mut Ticks<L>) -> bool
     ensures answer { result ≡ contain_each (tags members.now) (spec.requests requests.now) }
     ensures cost { ticks.new ≤ ticks.old + weight_all (tags members.now) }
     ensures grows { ticks.old ≤ ticks.new }
-    ensures each { IsTrue result → ticks.old + length members.now ≤ ticks.new }
+    ensures tested { IsTrue result → ticks.old + tested_each (tags members.now) (spec.requests requests.now) ≤ ticks.new }
 {
     if requests.len() < members.len() {
         return false;
@@ -87,13 +89,14 @@ fn each_holds<L: Ledger>(members: &[Tag], requests: &[Ground], ticks: &mut Ticks
 }
 
 /// Whether at least one of the tags, the members of a set, contains the request. The work is added to `ticks`, as by `holds_counted`: at
-/// most the weights of the tags, and at least one for each tag if the answer is false.
+/// most the weights of the tags, and at least what has to be tested: of each tag if the answer is false, else of the lightest that contains it.
 #[cycle(holds)]
 fn some_holds<L: Ledger>(members: &[Tag], request: &Ground, ticks: &mut Ticks<L>) -> bool
     ensures answer { result ≡ some_contains (tags members.now) request.now }
     ensures cost { ticks.new ≤ ticks.old + weight_all (tags members.now) }
     ensures grows { ticks.old ≤ ticks.new }
-    ensures each { result ≡ false → ticks.old + length members.now ≤ ticks.new }
+    ensures tested { ticks.old + (if some_contains (tags members.now) request.now then tested_least (tags members.now) request.now
+        else tested_all (tags members.now) request.now) ≤ ticks.new }
 {
     for member in members {
         if member.holds_counted(request, ticks) {

@@ -62,7 +62,7 @@ fn base64(alloc: Global, text: &[u8]) -> Reply {
     Ok(read_base64(alloc, text, 0, b'}')?.octets)
 }
 
-/// The canonical octets of a text. Err is its fault, if it has no value within the limits.
+/// The canonical octets that are kept of a text. Err is the fault that is kept in their place, if it has no value within the limits of its form.
 fn octets_of(alloc: Global, text: &CanonicalText) -> Reply {
     let document = text.document(alloc)?;
     octets(alloc, document.top().slice())

@@ -5,7 +5,7 @@
 use crate::answers::{Called, Reply, answer, call_on, shown, word};
 use crate::failure::Failure;
 use crate::owned_questions;
-use crate::texts::{at, behind, number, word_of};
+use crate::texts::{at, number, texts_from, word_of};
 use crate::verifier::{CalledBy, RowVerifier, with_verifier};
 use spki_cert::Policy;
 use spki_decision::{Decision, Grant, GuardFault, Reduction};
@@ -98,13 +98,13 @@ impl<'x> Called<'x> for Guard {
     fn call(&self, alloc: Global, name: &str, texts: &'x [Vec<u8>]) -> Reply {
         match name {
             "Guard::read" => shown(alloc, &self.entries()),
-            "Guard::ask" => ask_words(alloc, self, behind(texts, 4)),
+            "Guard::ask" => ask_words(alloc, self, texts_from(texts, 4)),
             _ => ask(
                 alloc,
                 name,
                 self,
-                &question(behind(texts, 4)),
-                behind(texts, 8),
+                &question(texts_from(texts, 4)),
+                texts_from(texts, 8),
             ),
         }
     }
@@ -113,7 +113,7 @@ impl<'x> Called<'x> for Guard {
 /// The decision on a question whose moment is seconds since 1970-01-01 UTC and whose request is strings. `texts` are the key, the seconds in
 /// digits, and the strings. The question has no certificates, so `decide_by` needs no marks.
 fn ask_words(alloc: Global, guard: &Guard, texts: &[Vec<u8>]) -> Reply {
-    let words = words_of(alloc, behind(texts, 2))?;
+    let words = words_of(alloc, texts_from(texts, 2))?;
     let question = with_words(texts, &words);
     ask(alloc, "PreparedQuestion::decide_by", guard, &question, &[])
 }
@@ -199,7 +199,7 @@ enum Wanted {
     Possibility,
 }
 
-/// What the call with this name asks for. None if there is no such call.
+/// What the call with this name asks of a question, by a verifier or by marks: see `is_by_verifier`. None if it is no such call.
 fn wanted_by(name: &str) -> Option<Wanted> {
     match name {
         "PreparedQuestion::decide" | "PreparedQuestion::decide_by" => Some(Wanted::Decision),

@@ -4,7 +4,7 @@
 use crate::answers::{Called, Reply, answer, call_on, word};
 use crate::failure::Failure;
 use crate::guards::{guard, question};
-use crate::texts::{at, behind};
+use crate::texts::{at, texts_from};
 use spki_decision::Grant;
 use spki_service::{OwnedQuestion, SharedGuard};
 use std::alloc::Global;
@@ -29,7 +29,7 @@ pub fn shared(alloc: Global, texts: &[Vec<u8>]) -> Result<SharedGuard, Failure> 
 /// owner is freed before the question is returned, so the row also tests that the question keeps the guard alive.
 fn opened(alloc: Global, texts: &[Vec<u8>]) -> Result<OwnedQuestion, Failure> {
     let shared = shared(alloc, texts)?;
-    let opened = OwnedQuestion::open(alloc, &shared, &question(behind(texts, 4)));
+    let opened = OwnedQuestion::open(alloc, &shared, &question(texts_from(texts, 4)));
     drop(shared);
     let mut opened = opened?;
     mark_all(&mut opened, at(texts, 8));

@@ -19,7 +19,7 @@ pub fn at(texts: &[Vec<u8>], place: usize) -> &[u8] {
 }
 
 /// The texts from a place, from 0, on. Empty if the row has fewer texts.
-pub fn behind(texts: &[Vec<u8>], place: usize) -> &[Vec<u8>] {
+pub fn texts_from(texts: &[Vec<u8>], place: usize) -> &[Vec<u8>] {
     match texts.get(place..) {
         Some(rest) => rest,
         None => &[],

@@ -4,7 +4,7 @@
 use crate::answers::{Answered, Called, Reply, answer, call_on, shown};
 use crate::cases;
 use crate::failure::Failure;
-use crate::texts::{OfTexts, all, at, behind, number, read};
+use crate::texts::{OfTexts, all, at, number, read, texts_from};
 use spki_cert::{Date, Entry, Key, Octets, Policy};
 use spki_reduce::{Five, Four, Issuer, Step, Work, fold_chain, fold_owned};
 use spki_tag::Ground;
@@ -17,14 +17,14 @@ use std::alloc::Global;
 pub(crate) fn call(alloc: Global, name: &str, texts: &[Vec<u8>]) -> Option<Reply> {
     match name {
         "Five::write" | "Five::missing_grant" => {
-            Some(call_on(alloc, five(alloc, texts), name, behind(texts, 3)))
+            Some(call_on(alloc, five(alloc, texts), name, texts_from(texts, 3)))
         }
-        "Five::then" => Some(call_on(alloc, five(alloc, behind(texts, 3)), name, texts)),
+        "Five::then" => Some(call_on(alloc, five(alloc, texts_from(texts, 3)), name, texts)),
         "Five::resolve" | "Five::into_resolve" | "Four::then" => {
-            Some(call_on(alloc, four(alloc, behind(texts, 3)), name, texts))
+            Some(call_on(alloc, four(alloc, texts_from(texts, 3)), name, texts))
         }
-        "fold_chain" => Some(call_on(alloc, steps(alloc, behind(texts, 3)), name, texts)),
-        "fold_owned" => Some(call_on(alloc, steps(alloc, behind(texts, 5)), name, texts)),
+        "fold_chain" => Some(call_on(alloc, steps(alloc, texts_from(texts, 3)), name, texts)),
+        "fold_owned" => Some(call_on(alloc, steps(alloc, texts_from(texts, 5)), name, texts)),
         _ => cases::call(alloc, name, texts),
     }
 }
@@ -195,7 +195,7 @@ impl<'x> Called<'x> for Vec<Step<'x>> {
 /// tags, lowered to 1,000,000 since `fold_owned` requires that, and the bound on work, empty for none. After them are the texts of the first tuple.
 /// `steps` are the other tuples.
 fn owned_chain<'x>(alloc: Global, steps: &[Step<'x>], texts: &'x [Vec<u8>]) -> Reply {
-    let first = five(alloc, behind(texts, 2))?;
+    let first = five(alloc, texts_from(texts, 2))?;
     let most = number(at(texts, 0)).min(1_000_000);
     let mut work = Work::new(bound(at(texts, 1)));
     let fold = fold_owned(alloc, first, steps, Policy::Open, most, &mut work);

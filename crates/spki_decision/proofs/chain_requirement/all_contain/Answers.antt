@@ -2,7 +2,7 @@ use Rattle.std.proofs.Common.{◌≡◌, true, false, List, ◌++◌, take_all, 
 use Rattle.spki_case.specs.View.{model}
 use Rattle.spki_reduce.specs.{declared.tuple.Step.{Step}, Chain.{tuples_of, all_windows}}
 use Rattle.spki_decision.specs.Until.{IsLeastEnd}
-use Rattle.spki_decision.proofs.{Costs.{contents_first}, ChainRequirements.{contain_more, contain_each}, Until.{least_more}}
+use Rattle.spki_decision.proofs.{Costs.{contents_first, tested_first}, ChainRequirements.{contain_more, contain_each}, Until.{least_more}}
 use Rattle.spki_decision.proofs.chain_requirement.all_contain.Goals as goal
 
 pub returns-then-not-contains : goal.returns-then-not-contains
@@ -17,13 +17,14 @@ returns-then-not-contains g c =
       );
       end = λ h. absurd (let clash : false ≡ true = h in cc);
       cost = omega (arith, step, c.loop-step.invariant.cost, c.contains.ensures.cost);
-      each = λ h. absurd (let clash : false ≡ true = h in cc);
-      grows = omega (arith, c.loop-step.invariant.looked, c.contains.ensures.grows);
+      tested = λ h. absurd (let clash : false ≡ true = h in cc);
+      grows = omega (arith, c.loop-step.invariant.grows, c.contains.ensures.grows);
     }
 
 pub loop-step-preserved : goal.loop-step-preserved
 loop-step-preserved g c =
     let step = contents_first c.args.steps.now _ c.step-item.result c.loop-step-test.true c.step-item.is in
+    let more = tested_first c.args.case.now.request c.args.steps.now _ c.step-item.result c.loop-step-test.true c.step-item.is in
     record {
       contain = contain_more c.args.steps.now c.loop-step.step-index c.step-item.result c.loop-step-test.true c.step-item.is (model c.args.case.now)
           c.loop-step.invariant.contain (c.contains.ensures.answer.0 c.if-not-contains.false);
@@ -31,7 +32,8 @@ loop-step-preserved g c =
           least_more c.args.steps.now c.loop-step.step-index c.step-item.result c.loop-step-test.true c.step-item.is windows c.end_with.result
           (c.end_with.ensures _ (c.loop-step.invariant.end windows before));
       cost = omega (arith, step, c.loop-step.invariant.cost, c.contains.ensures.cost);
-      looked = omega (arith, c.loop-step.invariant.looked, c.contains.ensures.grows);
+      tested = omega (arith, more, c.loop-step.invariant.tested, c.contains.ensures.tested);
+      grows = omega (arith, c.loop-step.invariant.grows, c.contains.ensures.grows);
     }
 
 pub returns-clause-end : goal.returns-clause-end

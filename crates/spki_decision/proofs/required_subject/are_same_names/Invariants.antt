@@ -7,6 +7,6 @@ abbrev pub invariant-loop-place : goal.invariant-loop-place
 invariant-loop-place g l = record {
   many : length l.one ≡ length l.other;
   same : take l.place l.one ≡ take l.place l.other;
-  cost : l.ticks + names_weight (drop l.place l.one) ≤ l.fn.ticks + names_weight l.one;
+  cost : l.ticks + names_weight (drop l.place l.one) ≡ l.fn.ticks + names_weight l.one;
   grows : l.fn.ticks ≤ l.ticks;
 }

@@ -6,6 +6,6 @@ use Rattle.spki_decision.proofs.required_subject.names_after.Given as goal
 abbrev pub invariant-loop-place : goal.invariant-loop-place
 invariant-loop-place g l = record {
   begun : l.fn.names ≡ take l.place l.front ++ l.rest;
-  cost : l.ticks + names_weight (drop l.place l.front) ≤ l.fn.ticks + names_weight l.front;
+  cost : l.ticks + names_weight (drop l.place l.front) ≡ l.fn.ticks + names_weight l.front;
   grows : l.fn.ticks ≤ l.ticks;
 }

@@ -20,7 +20,7 @@ loop-done-preserved g c =
       required = one_before c.args.policy steps (take (length steps - n) steps) (take (length steps - (n + 1)) steps) step c.args.key.now c.loop-done.required
           c.loop-done.invariant.required (last_of steps n (length steps - 1 - n) step c.loop-done-test.true refl c.index-steps-steps.is)
           (Some c.in-Some.earlier) (rw c.in-Some.is at c.in_ok-before.ensures.answer);
-      cost = omega (arith, last, c.loop-done.invariant.cost, c.in_ok-before.ensures.cost);
+      cost = omega (arith, last, c.loop-done.invariant.cost, rw c.in-Some.is at c.in_ok-before.ensures.exact);
       grows = omega (arith, c.loop-done.invariant.grows, c.in_ok-before.ensures.grows);
     }
 
