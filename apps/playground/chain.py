@@ -1,5 +1,6 @@
-"""The chain of an answer as boxes and arrows from the access list to the request, which the page draws as SVG. Entries, certificates and rights are
-values of S-expressions: a string is `bytes`, and a list a `list` whose first member is its head. A story is a question that was answered."""
+"""The chain of an answer as boxes and arrows, which the page draws as SVG: from the access list to the request, or to the certificate that stops it.
+Where a signature stops the chains of all entries, it begins at the first issuer. Entries, certificates and rights are values of S-expressions: a
+string is `bytes`, and a list a `list` whose first member is its head. A story is a question that was answered."""
 from labels import field
 from spki_cert_tool.sexp import on_one_line
 from story import issuer_of, subject_after, moment_of, subject_of, tag_of, window
@@ -105,8 +106,10 @@ class Chain:
 
 
 def chain(story, reason):
-    """The chain that `reason`, a line of `explain`, is about, as a dictionary for the page: its `steps`, and `behind`, which is how many certificates
-    behind the one that stops it are not drawn. The reason is None where there are no entries."""
+    """The chain of `reason`, a `Reason` of story.py, as a dictionary for the page: its `steps`, and `behind`, which is how many certificates behind
+    the one that stops it are not drawn. It begins at the access list, or at the first issuer if `reason.entry` is None: then a signature stops the
+    chains of all entries. It ends at the certificate that stops it, which is item `reason.item`, or at the request if that is None. The steps in the
+    middle of a long chain are left out. If `reason` is None, the list has no entries, and only the list is drawn."""
     drawn = Chain(story)
     if reason is None:
         drawn.add_box("list", "Access list", "0 entries", "no entries", "bad")

@@ -21,7 +21,7 @@ class Item(NamedTuple):
 
 
 def items_of(text):
-    """The members of the list that a text is in advanced or canonical form, with the head first. None if it is no list."""
+    """The members of the list that a text is in advanced or canonical form, with the head first. None if it is no list, or cannot be read."""
     try:
         node = Parser(text).whole()
     except (Wrong, RecursionError):

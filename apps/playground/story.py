@@ -17,8 +17,9 @@ LINE = re.compile(r"(?:entry (\d+) )?(?:item (\d+) )?(.*)")
 
 @dataclass
 class Reason:
-    """A line of `explain`: the number of an entry and that of an item of the sequence, each from 1 or None, and as `word` either `grants` or the
-    cause of the no, as NotIssuer."""
+    """A line of `explain`, taken apart. `entry` is the number of an entry from 1, or None if a signature that does not count stops the chains of all.
+    `item` is the number, from 1, of the item of the sequence that stops the chain, or None if none does. `word` is either `grants` or the cause of
+    the no, as NotIssuer."""
 
     entry: int | None
     item: int | None
@@ -38,7 +39,7 @@ class Reason:
 
 
 def reasons_of(lines):
-    """The lines of `explain` as a list of `Reason`. For an access list without entries it is empty."""
+    """The lines of `explain` as a list of `Reason`. For its only line `no entries` it is empty."""
     parts = [LINE.fullmatch(line).groups() for line in lines if line != "no entries"]
     return [Reason(int(entry) if entry else None, int(item) if item else None, word) for entry, item, word in parts]
 

@@ -158,7 +158,7 @@ function offerExamples(examples) {
   });
 }
 
-/** Fills the boxes with what the address holds, if there is something, and chooses its panel. */
+/** Fills the boxes with what the address holds, and chooses its panel. If it holds nothing, chooses the panel that is shown, which asks again. */
 function restore() {
   const given = stateInFragment();
   if (given) {

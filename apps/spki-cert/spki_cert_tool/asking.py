@@ -1,10 +1,11 @@
 """Asks a guard of the library, which holds an access list, whether a request is granted, and says in words why or why not.
 
 The library decides. What is here finds the certificates that lead to the key among those that are given, verifies signatures, and names what the
-library's reasons mean in these files. A reason is a line of the library's `explain`, as `entry 1 item 3 NoDelegation`: which entry, which item of the
-sequence stops the chain from this entry over all certificates, and the cause. An `Asked` is a question with the certificates that are at hand, and an
-`Answer` the decision about one sequence of them. A case is one text with a whole question. A `Value` is an S-expression: `bytes`, a pair of them with
-a display hint in front, or a list of values. `spki` is imported where it is used, because that loads the library.
+library's reasons mean in these files. A `Reason` is a line of the library's `explain`, as `entry 1 item 3 NoDelegation`, taken apart: the entry, the
+item of the sequence that stops the chain from this entry over all certificates, and as `word` the cause or `grants`. Its `item` is None if no item
+does, and its `entry` if a signature that does not count stops the chains of all entries. An `Asked` is a question with the certificates that are at
+hand, and an `Answer` the decision about one sequence of them. A case is one text with a whole question. A `Value` is an S-expression: `bytes`, a pair
+of them with a display hint in front, or a list of values. `spki` is imported where it is used, because that loads the library.
 """
 from __future__ import annotations
 
@@ -78,7 +79,7 @@ class Asked:
 class Answer:
     """The decision about one sequence, and the library's reasons: the lines of `explain`. `entry` is the number of the entry that grants, or None.
     `reduced` has the lines of `reduce`: for each entry `entry N (five ..)`, which is the right that is left of it, or what stops its chain. It has
-    only one line if a certificate does not pass, or if there are no entries."""
+    only one line if a signature in the sequence does not count, or if there are no entries."""
 
     sequence: Value
     entry: int | None
@@ -92,7 +93,7 @@ class Answer:
 
     @property
     def chosen(self) -> Reason | None:
-        """The reason that is said in words, or None if there are no entries."""
+        """The reason that is said in words. None if there is none: the list has no entries, and the signatures count."""
         return furthest(self.reasons)
 
     def remaining_right(self, entry: int) -> Value:
@@ -103,7 +104,7 @@ class Answer:
 
 def furthest(reasons: list[Reason]) -> Reason | None:
     """The reason of the entry that goes furthest: it grants, or its chain ends last. A reason without an item joins to its end, and of equal ones the
-    first entry is taken. None if there are no entries."""
+    first entry is taken. None if there are no reasons."""
     return max(reasons, key=lambda reason: (reason.word == "grants", reason.item or sys.maxsize, -(reason.entry or 0))) if reasons else None
 
 

@@ -25,7 +25,7 @@ def headed(value: Value, *heads: bytes) -> bool:
 
 
 def members(value: Value) -> list[Value]:
-    """The members of a list after its head."""
+    """The members of a list after its head. Of a string there are none."""
     return value[1:] if isinstance(value, list) else []
 
 
@@ -107,8 +107,8 @@ def terms_of(value: Value) -> Terms:
 
 
 def remarks_on_window(begins: bytes | None, ends: bytes | None, moment: bytes, what: str = "it") -> Iterator[tuple[bytes, str]]:
-    """Yields what is probably a mistake in a window of time, from `begins` to `ends`, as of a moment: for each the head of its field, and a remark.
-    The remark speaks of `what`, as "this entry". All three are dates, as 2026-03-01_12:00:00; None is no limit."""
+    """Yields what is probably a mistake in a window of time, from `begins` to `ends`, as of a moment: for each the head of its field, and a remark. A
+    remark calls what has the window `what`, as "this entry". All three are dates, as 2026-03-01_12:00:00; None is no limit."""
     for head, limit in ((b"not-before", begins), (b"not-after", ends)):
         if limit and not is_in_calendar(limit):
             yield head, f"no calendar has the moment {limit.decode()}"
@@ -144,7 +144,7 @@ def keys_in(sequence: Value) -> list[Value]:
 
 
 def certificates_in(sequence: Value) -> list[Signed]:
-    """The certificates of a sequence, each with the signature that follows it."""
+    """The certificates of a sequence, each with the signature that follows it. One without a signature is left out."""
     certificates: list[Signed] = []
     unsigned: tuple[Value, int] | None = None
     for number, item in enumerate(members(sequence), 1):
@@ -193,7 +193,7 @@ class Keys:
         return octets, hashlib.sha256(octets).digest()
 
     def are_one(self, one: Value | None, other: Value | None) -> bool:
-        """Whether two principals name the same key, by the keys that are known."""
+        """Whether two principals name the same key, by the keys that are known. False if one is None."""
         if one is None or other is None:
             return False
         return self.text_of(one)[1] == self.text_of(other)[1]

@@ -60,8 +60,8 @@ def refuse_folder(why: OSError) -> None:
 
 
 def remarks_on(path: str, moment: bytes, is_given: bool = True) -> tuple[str | None, list[Remark]]:
-    """What a file is, in words, and the remarks on it, as of a moment. None in place of the words if it is left out: its path was not given
-    itself (`is_given`), and by its name and how it begins it is neither an S-expression nor a key."""
+    """What a file is, in words, and the remarks on it, as of a moment: for one that cannot be read, why. None in place of the words if it is left
+    out: its path was not given itself (`is_given`), and by its name and its octets it is neither an S-expression nor a key."""
     try:
         octets = octets_of(path)
     except Refused as why:

@@ -155,7 +155,8 @@ def remove(given: argparse.Namespace) -> int:
 
 
 def list_at(path: str) -> bytes:
-    """Reads the text of an access list that is edited. Raises Refused if it is no regular file or stream, or if a service would refuse it."""
+    """Reads the text of an access list that is edited. Raises Refused if it is no regular file or stream, cannot be read, or would be refused by a
+    service."""
     if path != "-" and os.path.exists(path) and not os.path.isfile(path):
         raise Refused(f"{path}: this is no regular file, and only such a list is edited; nothing was written")
     return text_at(path, "refused acl")[0]
@@ -171,8 +172,8 @@ def confirm(is_given: bool, option: str, warnings: Iterable[str]) -> bool:
 
 
 def fields_given(given: argparse.Namespace) -> list[Value]:
-    """The fields that the options give a certificate or an entry: tag, validity, delegation and comment. Raises Refused for a right without --tag, or
-    for a tag that cannot be read."""
+    """The fields that the options give a certificate or an entry: tag, validity, delegation and comment. Raises Refused for a right without --tag,
+    for a tag that cannot be read, or for --days that end after the year 9999."""
     if given.tag is None and given.name is None:
         raise Refused("a right needs --tag")
     tag = value_of_word(os.fsencode(given.tag), "--tag", read_tag) if given.tag is not None else None
@@ -181,7 +182,8 @@ def fields_given(given: argparse.Namespace) -> list[Value]:
 
 def subject_of(given: argparse.Namespace, naming: Callable[[Value], Value] = principal_of) -> Value:
     """The subject that --to and --named say: a key, a hash, or a name. Without --to it is a name of the issuer, which only a certificate has: for an
-    entry the caller has tested that --to is given. `naming` returns the principal for the key of a file. Raises Refused."""
+    entry the caller has tested that --to is given. `naming` returns the principal for the key of a file. Raises Refused if --to cannot be read, or if
+    the two say no subject, or one that an entry cannot have."""
     if given.to is None:
         if not given.named:
             raise Refused("a certificate needs --to, or --named for a name of the issuer")
@@ -207,7 +209,8 @@ def request_of(words: list[str]) -> Value:
 
 
 def labels_of(given: argparse.Namespace, *paths: str) -> Labels:
-    """The labels by which keys are called, from the files and folders of --labels, of SPKI_LABELS, and of `paths`. The first label of a key stays."""
+    """The labels by which keys are called, from the files and folders of --labels, of SPKI_LABELS, and of `paths`. The first label of a key stays.
+    Raises Refused for a file that cannot be read."""
     labels = Labels()
     for path in (*given.labels, os.environ.get("SPKI_LABELS", ""), *paths):
         if path:

@@ -118,7 +118,7 @@ class Drawing:
 
 def drawing_of_case(case: Value, reasons: list[Reason], reduced: Callable[[int], Value], labels: Labels | None = None, width: int = WIDTH) -> Drawing:
     """The drawing of a case, for the reason that goes furthest of the library's `reasons`. `reduced` returns the right `(five ..)` that is left of an
-    entry, by its number from 1: it is called only if the chain joins to its end. Without entries the drawing is empty. `labels` and `width` are as
+    entry, by its number from 1: it is called only if the chain joins to its end. Without reasons the drawing is empty. `labels` and `width` are as
     for Drawing."""
     chosen = furthest(reasons)
     access_list, _, sequence, key = members(case)[:4]
@@ -224,7 +224,8 @@ def svg_of_drawing(drawing: Drawing, title: str, width: float = 620) -> Iterator
 
 
 def svg_of(value: Value, labels: Labels) -> bytes:
-    """A list, a certificate, a sequence or a case as SVG. Of a case it is the chain of its decision. Raises Refused if the library refuses it."""
+    """A list, a certificate, a sequence or a case as SVG. Of a case it is the chain of its decision. Raises Refused if the library, which only a case
+    needs, refuses it or cannot be loaded."""
     if headed(value, b"case"):
         asked = asked_of_case(value, labels)
         return svg_of_answer(asked, best_answer(asked))

@@ -55,8 +55,8 @@ def last_line(lines: list[bytes]) -> bytes:
 
 
 def lines_in(path: str) -> list[bytes]:
-    """The lines of the file before the last one. Raises Refused if they or the last line are not in the form, or do not belong together, and OSError
-    if there is no file."""
+    """The lines of the file before the last one. Raises Refused if they or the last line are not in the form, or do not belong together, and Refused
+    or OSError as `read_ended` does."""
     # (`rest` is what follows the last line feed, and must be empty. An empty line is put in front, since an empty file has only one to unpack)
     *lines, last, rest = [b"", *read_ended(path).split(b"\n")]
     lines, last_match = lines[1:], LAST.fullmatch(last)
@@ -76,7 +76,7 @@ def lines_in(path: str) -> list[bytes]:
 def lines_by_hand(path: str) -> tuple[list[bytes], bool]:
     """The lines of a file that people have written or changed, rewritten in the form of the file, and whether they have as many digests as its last
     line says. A last line that begins with `end `, right or wrong, is left out. If there is none, the second value is True, and for one in another
-    form False. Raises Refused for a line that is neither a digest, a comment nor empty, and OSError if there is no file."""
+    form False. Raises Refused for a line that is neither a digest, a comment nor empty, and Refused or OSError as `read_ended` does."""
     octets = read_ended(path)
     lines = octets.removesuffix(b"\n").split(b"\n") if octets else []
     last = lines.pop() if lines and lines[-1].startswith(b"end ") else None

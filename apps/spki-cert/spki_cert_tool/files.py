@@ -156,7 +156,8 @@ def text_at(path: str, read_as: str = "") -> tuple[bytes, Node]:
 
 
 def value_of(path: str, kind: str) -> Value:
-    """The value of a file, which must be of a kind: acl, sequence, case. Raises Refused for another one, or if a service would refuse it."""
+    """The value of a file, which must be of a kind: acl, sequence, case. Raises Refused for one of another kind, if it cannot be read, or if a
+    service would refuse it."""
     _, node = text_at(path, f"refused {kind}")
     # (`text_at` accepts a whole case too: a refusal that begins so may be that of a part of a case)
     if node.head != kind.encode():
@@ -165,7 +166,8 @@ def value_of(path: str, kind: str) -> Value:
 
 
 def value_headed(path: str, heads: tuple[bytes, ...], wanted: str) -> Value:
-    """The value of a file, which must have one of these heads. Otherwise raises Refused with `wanted`, which says what is wanted."""
+    """The value of a file, which must have one of these heads. Otherwise raises Refused with `wanted`, which says what is wanted. Raises Refused also
+    as `text_at` does."""
     _, node = text_at(path)
     if node.head not in heads:
         raise Refused(f"{path}: {wanted}")
@@ -221,8 +223,8 @@ def key_at(path: str, number: int | None = None, is_private_too: bool = False) -
 
 
 def signer_at(path: str) -> Signer:
-    """What signs by the key of a file: a private key itself, or ssh-agent for a public one. Raises Refused if the file has no key that is used, or
-    ssh-agent does not hold it."""
+    """What signs by the key of a file: a private key itself, or ssh-agent for a public one. Raises Refused if the file cannot be read or has no key
+    that is used, if its passphrase is not given, or if ssh-agent does not answer or does not hold the key."""
     with octets_of_key(path) as octets:
         if is_private(octets):
             return FileSigner(read_private(octets, lambda: passphrase_for(path)))

@@ -96,7 +96,8 @@ def key_of(public: object) -> Value:
 
 
 def public_of(key: Value) -> Public | None:
-    """The public key of `cryptography` for an SPKI key in exactly the form of `key_of`. None for any other: services verify no signature by it."""
+    """The public key of `cryptography` for an SPKI key that `key_of` could return. None for one in another form, or that is weak or of another
+    length: services verify no signature by it."""
     from spki_verify import public_of as public_of_text
     return public_of_text(canonical(key))
 

@@ -64,8 +64,8 @@ def sequence_with(chain: Value | None, key: Value, certificate: Value, value: Va
 
 
 def list_without(subject: Value, before: bytes) -> tuple[bytes, list[tuple[int, str]]]:
-    """The text of the access list `before` without the entries for a subject, and the numbers, from 1, and tags of these. What is around them stays
-    as it is, unless the list is in braces: then it is written in advanced form. A key and a hash of it are one subject."""
+    """The text of the access list `before` without the entries for a subject and the white space in front of them, and the numbers, from 1, and tags
+    of these. The rest stays as it is, unless the list is in braces: then it is written in advanced form. A key and a hash of it are one subject."""
     if before.lstrip().startswith(b"{"):
         before = text_of(value_in(before).value)
     # (an entry without a tag has terms too, of which only the subject is used)

@@ -173,7 +173,8 @@ def read_case(node: Node) -> None:
 
 
 def read_outline(node: Node) -> None:
-    """Tests that a case has its parts, by their heads and in their order, and behind them `(policy strict)` or nothing. Raises Wrong if not."""
+    """Tests that a case has its parts, by their heads and in their order, and behind them `(policy strict)` or nothing, and that the key, the request
+    and the moment are one member each. Raises Wrong if not."""
     read_part("case", partial(Members, head=b"case", what="the text"), node)
     parts = node.rest
     for place, head in enumerate(PARTS):
@@ -349,7 +350,7 @@ def places_of(wrong: Wrong) -> list[Place]:
 
 
 def printable(octet: int) -> str:
-    """An octet as it is shown: white space as a space, and what is not printable as `\\x..`."""
+    """An octet as it is shown: a tab or a line break as a space, and what else is not printable as `\\x..`."""
     return chr(octet) if 32 <= octet < 127 else " " if octet in b"\t\n\r" else f"\\x{octet:02x}"
 
 

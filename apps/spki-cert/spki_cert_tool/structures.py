@@ -187,7 +187,7 @@ def why_no_field(node: Node, allowed: tuple[bytes, ...]) -> str:
 
 def read_fields(owner: Node, nodes: list[Node], allowed: tuple[bytes, ...]) -> FieldsRead:
     """Reads the fields `nodes`, whose heads must be allowed. Returns by head the field's node and what its reader returns. `owner` is the list that
-    has them. Raises Wrong."""
+    has them. Raises Wrong for a field that is not allowed, that its reader refuses or that is there twice, and for one of LIMITS beside `valid`."""
     fields: FieldsRead = {}
     for node in nodes:
         head = node.head

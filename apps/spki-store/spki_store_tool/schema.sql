@@ -116,7 +116,7 @@ CREATE TABLE @SCHEMA@.heartbeat (one boolean PRIMARY KEY DEFAULT true CHECK (one
     WITH (fillfactor = 10);
 INSERT INTO @SCHEMA@.heartbeat (number, moment) VALUES (0, clock_timestamp());
 
--- How far a file was imported, by its SHA-256 digest.
+-- How far a list was imported, by the SHA-256 digest of its text in canonical form.
 CREATE TABLE @SCHEMA@.imports (file bytea PRIMARY KEY, octets bigint NOT NULL, entries bigint NOT NULL, is_done boolean NOT NULL);
 
 -- Writes the rows that a statement has added or removed into `changes`, with the next numbers. The triggers below call it, with these rows as

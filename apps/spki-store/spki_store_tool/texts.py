@@ -52,8 +52,8 @@ def end_of(text: mmap.mmap | bytes, at: int) -> int:
 
 def entries_in(text: mmap.mmap | bytes, begin: int = 0) -> Iterator[tuple[bytes, int]]:
     """Yields the entries of an access list in canonical form, each with the offset behind it. `begin` is 0, or such an offset, from which an import
-    goes on. Raises Wrong if the text does not begin as an access list, or where neither a list nor the end of the access list follows. Does
-    not test that the lists are entries."""
+    goes on. Raises Wrong if the text does not begin as an access list, or where neither a whole list nor the end of the access list follows. Does not
+    test that the lists are entries."""
     if text[:len(BEGIN)] != BEGIN:
         raise Wrong("this is no access list, which begins with (3:acl in canonical form; one of over 1 MiB must be in this form")
     at = begin or len(BEGIN)
