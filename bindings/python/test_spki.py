@@ -299,14 +299,9 @@ class OpenedQuestions(unittest.TestCase):
         opened.mark(0)
         self.assertEqual((self.guard.require(new_question(), accept_all), opened.require()), (1, 1))
 
-    def test_exceptions_are_copied(self):
-        """A process may send them to another one."""
-        for exception in (spki.Denied(), spki.Refused("refused Memory"), spki.NotProved("no proof")):
-            for copied in (copy.copy(exception), pickle.loads(pickle.dumps(exception))):
-                self.assertEqual((type(copied), str(copied), vars(copied)), (type(exception), str(exception), vars(exception)))
-
     def test_a_grant_says_until_when_it_holds(self):
-        """A grant holds till the least window ends, and no second longer."""
+        """A grant holds till the least window ends, here that of the entry, and no second longer. What is no `datetime` with a time zone is a
+        `TypeError`. Without a window a grant holds at each moment from 1970 on."""
         last, second = datetime(2026, 6, 30, 23, 59, 59, tzinfo=timezone.utc), timedelta(seconds=1)
         ending = spki.Guard(LIST.replace(b"(tag (*))", b'(tag (*)) (not-after "2026-06-30_23:59:59")'))
         grant = ending.decide(new_question(), accept_all)
@@ -346,7 +341,7 @@ class OpenedQuestions(unittest.TestCase):
 
     def test_each_call_holds_the_lock(self):
         """Each call of the library by which an `Asked` reads a signature, marks one or answers is made while the lock of the `Asked` is held: so
-        none is made while another thread marks a signature. A free-threaded Python has no other lock that would ensure it."""
+        none is made while another thread marks a signature. No other lock ensures it: three of these calls release the GIL."""
         opened, is_held = self.guard.ask(new_question()), {}
         with contextlib.ExitStack() as patches:
             for name in ("signature", "mark", "possible", "decide", "explain", "reduce"):
@@ -383,9 +378,35 @@ class OpenedQuestions(unittest.TestCase):
                 read()
                 self.assertEqual(memory.__getitem__.call_count, 3)
 
+    # The `repr` of a guard and of an opened question says whether it is closed.
+    def test_repr_says_what_is_closed(self):
+        opened = self.guard.ask(new_question())
+        names = [repr(self.guard), repr(opened)]
+        self.guard.close()
+        opened.close()
+        self.assertEqual(names + [repr(self.guard), repr(opened)], [
+            "<spki.Guard of 1 entries, STRICT>", "<spki.Asked of 1 signatures>", "<spki.Guard of 1 entries, STRICT, closed>",
+            "<spki.Asked of 1 signatures, closed>"])
+
+    # A failed allocation raises `Refused` with the fault `MEMORY`, and is not the end of the list.
+    def test_signature_without_memory(self):
+        opened = spki.Guard(LIST).ask(new_question())
+        with mock.patch.object(_library, "signature", return_value=_library.NO_MEMORY), self.assertRaises(spki.Refused) as raised:
+            opened.signatures()
+        self.assertEqual(raised.exception.fault, "Memory")
+
+    # The library is replaced by calls that return a status which the module expects of none of them.
+    def test_an_unknown_status_is_no_answer(self):
+        opened = spki.Guard(LIST).ask(new_question())
+        for status in (0, 3, 5, 7, 10):
+            with mock.patch.object(_library, "decide", return_value=_library.Decision(status)), self.assertRaises(RuntimeError):
+                opened.decide()
+            with mock.patch.object(_library, "mark", return_value=status), self.assertRaises(RuntimeError):
+                opened.mark(0)
+
 
 class Copies(unittest.TestCase):
-    """A guard and an opened question are of one process, and a question is its parts."""
+    """A guard and an opened question are of one process. A question is its parts, and it and an exception may be sent to another process."""
 
     def setUp(self):
         self.guard = spki.Guard(LIST)
@@ -428,14 +449,11 @@ class Copies(unittest.TestCase):
         self.assertEqual(len({new_question(), new_question(words=list(WORDS)), new_question(moment=NOW + timedelta(seconds=1))}), 2)
         self.assertNotEqual(new_question(), None)
 
-    # The `repr` of a guard and of an opened question says whether it is closed.
-    def test_repr_says_what_is_closed(self):
-        names = [repr(self.guard), repr(self.opened)]
-        self.guard.close()
-        self.opened.close()
-        self.assertEqual(names + [repr(self.guard), repr(self.opened)], [
-            "<spki.Guard of 1 entries, STRICT>", "<spki.Asked of 1 signatures>", "<spki.Guard of 1 entries, STRICT, closed>",
-            "<spki.Asked of 1 signatures, closed>"])
+    def test_exceptions_are_copied(self):
+        """A process may send them to another one."""
+        for exception in (spki.Denied(), spki.Refused("refused Memory"), spki.NotProved("no proof")):
+            for copied in (copy.copy(exception), pickle.loads(pickle.dumps(exception))):
+                self.assertEqual((type(copied), str(copied), vars(copied)), (type(exception), str(exception), vars(exception)))
 
     def test_a_child_uses_what_was_open(self):
         """A child that was forked answers by its parent's guard and question, frees nothing of them, and opens and frees its own."""
@@ -496,6 +514,8 @@ class ProvenKeys(unittest.TestCase):
             self.assertEqual((copied, hash(copied), new_question().key), (key, hash(key), key))
         self.assertNotEqual(key, KEY)
 
+
+class Signatures(unittest.TestCase):
     # The three parts of a `Signature` are given by name, so that none is taken for another.
     def test_the_parts_of_a_signature_have_names(self):
         for given in ((b"key", b"message", b"value"), ()):
@@ -511,7 +531,7 @@ class ProvenKeys(unittest.TestCase):
 
 
 class QuestionParts(unittest.TestCase):
-    """The parts of a question."""
+    """The parts of a question, and texts that are given to other calls."""
 
     def test_a_string_with_spaces_stays_one_string(self):
         """A string with spaces, parentheses or a length in it stays one string of the request: a path that ends with ` read` makes no `write` a
@@ -616,15 +636,6 @@ class QuestionParts(unittest.TestCase):
         self.assertEqual(spki.canonical(OfFalseLength(b"(a)")), b"(1:a)")
         self.assertEqual(spki.string_at(OfFalseLength(b"3:abc")), b"abc")
 
-    def test_long_forms_are_whole_in_bounded_memory(self):
-        """The longest advanced form is that of octets which are printed in base64: 1,000 times `|AA==|` with 999 spaces, two parentheses and a line
-        feed. For a text that is too long only three times the longest text is allocated, which is less than 1 << 22 octets."""
-        self.assertEqual(len(spki.advanced(b"(" + b"1:\0" * 1000 + b")")), 7 * 1000 + 2)
-        with mock.patch.object(spki, "_AnswerMemory", side_effect=spki._AnswerMemory) as memory, self.assertRaises(spki.Refused) as raised:
-            spki.canonical(b" " * (1 << 24))
-        self.assertEqual(raised.exception.fault, "TooLong")
-        self.assertLess(memory.call_args.args[0], 1 << 22)
-
 
 class Guards(unittest.TestCase):
     # An empty list, the same in transport form, and a list whose entry has no parts.
@@ -708,8 +719,8 @@ class Guards(unittest.TestCase):
         self.assertTrue(guard.decide(new_question(), lambda signature: guard.close() is None))
 
     def test_closing_in_another_thread(self):
-        """Beside every call a guard and a question may be closed. A call answers as before, or raises ValueError. Each row of `calls` says whether
-        the answer is the right one: `verify` and `mark` return None."""
+        """A guard and a question may be closed while another thread makes one of `calls` again and again: this answers as before, or raises
+        ValueError. Each row says whether the answer is the right one: `verify` and `mark` return None."""
         calls = {"entries": lambda guard, opened: guard.entries == 1, "decide": lambda guard, opened: bool(guard.decide(new_question(), accept_all)),
                  "count": lambda guard, opened: len(opened) == 1, "signatures": lambda guard, opened: opened.signatures()[0] == SIGNED,
                  "verify": lambda guard, opened: opened.verify(accept_all) is None, "ask": lambda guard, opened: len(guard.ask(new_question())) == 1,
@@ -786,6 +797,15 @@ class Texts(unittest.TestCase):
             spki.canonical(b"(a ~)")
         self.assertEqual(raised.exception.line, "refused form Bad 3")
 
+    def test_long_forms_are_whole_in_bounded_memory(self):
+        """The longest advanced form is that of octets which are printed in base64: 1,000 times `|AA==|` with 999 spaces, two parentheses and a line
+        feed. For a text that is too long only three times the longest text is allocated, which is less than 1 << 22 octets."""
+        self.assertEqual(len(spki.advanced(b"(" + b"1:\0" * 1000 + b")")), 7 * 1000 + 2)
+        with mock.patch.object(spki, "_AnswerMemory", side_effect=spki._AnswerMemory) as memory, self.assertRaises(spki.Refused) as raised:
+            spki.canonical(b" " * (1 << 24))
+        self.assertEqual(raised.exception.fault, "TooLong")
+        self.assertLess(memory.call_args.args[0], 1 << 22)
+
     # A path has the numbers of the members to go into. `string_at` is `None` for a path to a list, into a string, or to no member, and if the text is
     # not in canonical form.
     def test_string_at_follows_a_path(self):
@@ -798,27 +818,11 @@ class Texts(unittest.TestCase):
             self.assertIsNone(spki.string_at(key, *path))
         self.assertIsNone(spki.string_at(b"(a)", 0))
 
-    # A failed allocation raises `Refused` with the fault `MEMORY`, and is not the end of the list.
-    def test_signature_without_memory(self):
-        opened = spki.Guard(LIST).ask(new_question())
-        with mock.patch.object(_library, "signature", return_value=_library.NO_MEMORY), self.assertRaises(spki.Refused) as raised:
-            opened.signatures()
-        self.assertEqual(raised.exception.fault, "Memory")
-
     # A failed allocation raises `Refused` with the fault `MEMORY`, and does not mean that no string is there.
     def test_string_without_memory(self):
         with mock.patch.object(spki.library, "spki_string", return_value=_library.NO_MEMORY), self.assertRaises(spki.Refused) as raised:
             spki.string_at(b"3:abc")
         self.assertEqual(raised.exception.fault, "Memory")
-
-    # The library is replaced by calls that return a status which the module expects of none of them.
-    def test_an_unknown_status_is_no_answer(self):
-        opened = spki.Guard(LIST).ask(new_question())
-        for status in (0, 3, 5, 7, 10):
-            with mock.patch.object(_library, "decide", return_value=_library.Decision(status)), self.assertRaises(RuntimeError):
-                opened.decide()
-            with mock.patch.object(_library, "mark", return_value=status), self.assertRaises(RuntimeError):
-                opened.mark(0)
 
 
 class Words(unittest.TestCase):

@@ -9,7 +9,7 @@ local function line(name, value)
 end
 
 -- Asks the daemon about a request. Returns the status of its answer and X-Spki-Answer, each as a string, or nil if there is none. Fails if
--- the daemon gives no whole answer, or if 5 seconds pass without a part of it.
+-- the daemon gives no whole answer, if 5 seconds pass without a part of it, or where `line` fails.
 local function ask_daemon(r)
     -- (X-Client-Cert takes a certificate as base64: PEM without its first and last line and without white space)
     local certificate = (r:ssl_var_lookup("SSL_CLIENT_CERT") or ""):gsub("%-%-%-%-%-[A-Z ]+%-%-%-%-%-", ""):gsub("%s", "")

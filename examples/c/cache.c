@@ -33,7 +33,8 @@ static bool is_normal(const char *path)
     return *path == '/' && !strstr(closed, "//") && !strstr(closed, "/./") && !strstr(closed, "/../");
 }
 
-/* Writes the text to the file at `path` below the folder, or, unless `writes`, prints what this file has, at most MOST octets. */
+/* Writes the text to the file at `path` below the folder, and prints `written N` (octets) or `not written`. Unless `writes`, prints what this file
+ * has, up to an octet 00 and at most MOST octets, or `nothing is there`. */
 static void answer(bool writes, const char *folder, const char *path, const char *text)
 {
     static char name[2 * MOST], content[MOST];

@@ -11,7 +11,8 @@
 
 enum { MOST_HEAD = 65536, MOST_LIST = 1048576, MOST_FIELDS = 64, MOST_NONCES = 100000, TIMEOUT_SECONDS = 5 };
 
-/* Whether `head`, a C string, which is cut into its parts here, is a GET whose signer may read its path. One with `%`, `?`, `//` or `/.` is none. */
+/* Whether `head`, a C string, which is cut into its parts here, is a GET whose signer may read its path. Nobody may read one with `%`, `?`, `//` or
+ * `/.` in it. */
 static bool is_granted(const spki_guard *guard, const struct http_service *service, char *head)
 {
     struct http_field fields[MOST_FIELDS];

@@ -48,7 +48,8 @@ LIMITS = spki.Limits(nodes=10_000)
 
 
 def guard_of(texts, policy=spki.Policy.STRICT, limits=LIMITS):
-    """A guard of the access list of these entries, texts in canonical form. Raises `spki.Refused` if one of them is no entry."""
+    """A guard of the access list of these entries, texts in canonical form. Raises `spki.Refused` if one of them is no entry, or if the list has over
+    1 MiB."""
     return spki.Guard(b"(3:acl%s)" % b"".join(texts), policy, limits)
 
 

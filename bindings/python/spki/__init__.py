@@ -139,8 +139,8 @@ class Asked(_Closable, NoDecision):
         an explanation or a reduction. Raises what `Guard.ask` raises."""
         self._handle, self._answer_octets = _AskedHandle(_open_question(guard, question)), answer_octets
         self._count = _library.count(self._handle)
-        # (while a signature is marked, the library permits no other call on the question. The GIL, which the short calls keep, does not
-        # ensure that: a free-threaded Python has none)
+        # (while a signature is marked, the library permits no other call on the question. The GIL does not ensure that: `decide`, `explain` and
+        # `reduce` release it, and a free-threaded Python has none)
         self._lock = threading.Lock()
 
     def __len__(self) -> int:
@@ -233,9 +233,9 @@ class Asked(_Closable, NoDecision):
 class Guard(_Closable):
     """An access list that is read once and asked often, also by several threads at the same time.
 
-    `decide`, `explain` and `reduce` open a question, call `verify(signature)` for each signature that the answer
-    depends on, in order up to the first `False`, and answer. `decide` does not call it if the request would be denied
-    even if all were valid. An exception that `verify` raises is passed on, and nothing is granted. If it returns
+    `decide`, `require`, `explain` and `reduce` open a question, call `verify(signature)` for each signature that the
+    answer depends on, in order up to the first `False`, and answer. The first two do not call it if the request would be
+    denied even if all were valid. An exception that `verify` raises is passed on, and nothing is granted. If it returns
     neither `True` nor `False`, they raise `TypeError`.
     """
 
@@ -310,9 +310,9 @@ def string_at(text: bytes, *path: int) -> bytes | None:
     """The octets of a string inside a value in canonical form. Each number of the path is that of a member to go into, from 0; the head
     of a list is member 0.
 
-    `None` if no string is there, or the text is no value in canonical form within the limits. Raises `Refused` if an allocation failed, and
-    `TypeError` if the text is not bytes or a number is no `int`. In `(public-key (rsa (n ..) (e #010001#)))` the path 1, 1, 1 leads to the
-    modulus.
+    `None` if no string is there, or the text is no value in canonical form of at most 1,048,576 octets and 64 open lists. Raises `Refused` if an
+    allocation failed, and `TypeError` if the text is not bytes or a number is no `int`, or is `True` or `False`. In `(public-key (rsa (n ..)
+    (e #010001#)))` the path 1, 1, 1 leads to the modulus.
     """
     octets, length, text, places = c_void_p(), c_size_t(), octets_of(text), list(map(int_of, path))
     # (`c_size_t` would cut other numbers, and a text has fewer members than octets)
@@ -325,8 +325,8 @@ def string_at(text: bytes, *path: int) -> bytes | None:
 
 
 def canonical(text: bytes) -> bytes:
-    """The canonical form of the one value that a text is, in any of the three forms. Raises `Refused` if it is not one value
-    within the limits, or if an allocation failed, and `TypeError` if it is not bytes."""
+    """The canonical form of the one value that a text is, in any of the three forms. Raises `Refused` if it is not one value of at most 1,048,576
+    octets and 64 open lists, or if an allocation failed, and `TypeError` if it is not bytes."""
     return _convert(_library.CANONICAL, octets_of(text))
 
 

@@ -68,8 +68,8 @@ class Input:
 
 
 class Parser:
-    """Reads the value of a field from the left. Each method but `skip_if` raises `Refused` if what it reads is not there.
-    `position` is that of the rest, which is not read yet."""
+    """Reads the value of a field from the left. Each method but `skip_if` raises `Refused` for a rest of another form than
+    it reads. `position` is that of the rest, which is not read yet."""
 
     def __init__(self, text: str) -> None:
         """Reads the label `spki=` of `text`, the value of a field. Raises `Refused`: `other-label` for another label, and

@@ -108,8 +108,8 @@ class Auth(_SignsForHosts):
 
     def __call__(self, request: Any) -> Any:
         """Adds the fields of `Signer.fields` if the request goes to one of the hosts. Returns the request. A body that is a string becomes octets,
-        by UTF-8. `requests` and `httpx` call it for each request. Raises `TypeError` for a body that is a stream, or in `httpx` its exception
-        `RequestNotRead`, and what `Signer.fields` raises."""
+        by UTF-8. `requests` and `httpx` call it for each request. Raises `TypeError` for any other body than octets, such as a stream, or in `httpx`
+        its exception `RequestNotRead`, and what `Signer.fields` raises."""
         if self._is_to_host(str(request.url)):
             # (`httpx` has `content`, and `requests` has `body`)
             body = (request.content if hasattr(request, "content") else request.body) or b""

@@ -181,9 +181,9 @@ class Verifier:
 
     def _check_message(self, message: Message, signature_input: Input) -> tuple[bytes, tuple[str, bytes] | None]:
         """Tests the method, the target and the authority, that each covered field is there once with a value that can
-        be signed, that each field is covered that must be, and the form of the digest. Returns the signed text, and the
-        algorithm and octets of the body's digest, or None if none is covered. Raises `Refused` with the name of the first
-        test that fails."""
+        be signed, that each field is covered that must be, also a digest where there may be a body, and the form of the
+        digest. Returns the signed text, and the algorithm and octets of the body's digest, or None if none is covered.
+        Raises `Refused` with the name of the first test that fails."""
         if not METHOD.fullmatch(message.method):
             raise Refused("bad-method")
         if not TARGET.fullmatch(message.target):

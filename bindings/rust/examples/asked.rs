@@ -23,8 +23,8 @@ struct Input {
 }
 
 impl Input {
-    /// Reads the next string, LENGTH:OCTETS, and returns its octets. `None` at the end of the input, or if LENGTH is no number. Panics if the octets
-    /// are cut off.
+    /// Reads the next string, LENGTH:OCTETS, and returns its octets. `None` if no colon follows, as at the end of the input, or if LENGTH is no
+    /// number. Panics if the octets are cut off.
     fn next(&mut self) -> Option<&[u8]> {
         let rest = &self.octets[self.position..];
         let colon = rest.iter().position(|octet| *octet == b':')?;
@@ -33,12 +33,12 @@ impl Input {
         Some(&self.octets[self.position - length..self.position])
     }
 
-    /// Reads the next string. `None` at the end of the input, or if it is not UTF-8.
+    /// Reads the next string. `None` where `next` returns it, and if the string is not UTF-8.
     fn text(&mut self) -> Option<String> {
         String::from_utf8(self.next()?.to_vec()).ok()
     }
 
-    /// Reads the number of strings, and then these. `None` at the end of the input, or if the first string is no number.
+    /// Reads the number of strings, and then these. `None` if one of them is missing, or if the first string is no number.
     fn list(&mut self) -> Option<Vec<Vec<u8>>> {
         let count = self.text()?.parse().ok()?;
         (0..count)
@@ -59,8 +59,8 @@ fn line_of(reason: Reason) -> String {
     )
 }
 
-/// Reads the next question, and returns its answer without the last line feed. `None` at the end of the input, or if a number is not one. Panics if
-/// octets are cut off, or if a request by `text` has no string.
+/// Reads the next question, and returns its answer without the last line feed. `None` at the end of the input, or if the rest of it is no whole
+/// question. Panics if octets are cut off, or if a request by `text` has no string.
 fn answer(input: &mut Input) -> Option<Result<String, Refusal>> {
     let (command, policy, limits) = (input.text()?, input.text()?, input.text()?);
     let mut next = || input.next().map(<[u8]>::to_vec);

@@ -29,8 +29,9 @@ fn decide(
     guard.decide_by(&question, &mut Openssl)
 }
 
-/// Answers each line: `denied`, `written N` (octets), `not written`, what the file has, or `nothing is there`. The last grant is used again for
-/// the same request while it holds.
+/// Answers each line: `denied`, `written N` (octets), `not written`, what the file has, or `nothing is there`, also for a file that is no UTF-8. The
+/// last grant is used again for the same request while it holds. Fails for other arguments, for a list that is refused, for files of the arguments
+/// that cannot be read, and for a line that is no UTF-8.
 fn main() -> Result<(), Box<dyn Error>> {
     let arguments: Vec<String> = env::args().collect();
     let [_, list, folder, key, sequence] = &arguments[..] else {

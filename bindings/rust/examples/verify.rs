@@ -10,16 +10,16 @@ use spki::{Signature, Verifier};
 use std::error::Error;
 use std::io::{self, Read};
 
-/// The octets of the string LENGTH:OCTETS that a text begins with, and what is behind it. `None` at the end, or if LENGTH is no number. Panics if the
-/// octets are cut off.
+/// The octets of the string LENGTH:OCTETS that a text begins with, and what is behind it. `None` if the text has no colon, as at the end, or if
+/// LENGTH is no number. Panics if the octets are cut off.
 fn split_string(text: &[u8]) -> Option<(&[u8], &[u8])> {
     let colon = text.iter().position(|octet| *octet == b':')?;
     let length: usize = std::str::from_utf8(&text[..colon]).ok()?.parse().ok()?;
     Some(text[colon + 1..].split_at(length))
 }
 
-/// Verifies all signatures of the input. Ends with status 1 if the command `openssl` cannot be run. One or two strings too many at the end are left
-/// out.
+/// Verifies all signatures of the input. Ends with status 1 if `Openssl` fails, as where the command cannot be run. One or two strings too many at
+/// the end are left out.
 fn main() -> Result<(), Box<dyn Error>> {
     let mut input = Vec::new();
     io::stdin().read_to_end(&mut input)?;

@@ -174,7 +174,7 @@ impl Asked {
     ///
     /// The request is not granted: no entry grants it, or an allocation failed.
     pub fn decide(&self) -> Result<Grant, Denied> {
-        // (for an error of a verifier that never fails: none is called here)
+        // (the error of a verifier is `Infallible`, by the type of the result: no verifier is called here)
         self.decide_after_verifying()
     }
 

@@ -158,8 +158,8 @@ impl<N: TakeNonce> Requests<N> {
         field.unwrap_or(b"(sequence)").to_vec()
     }
 
-    /// Tests the tag, the length of the nonce, and the times at `now`, in seconds since 1970. Fails with the first of these that is wrong. The times of
-    /// `input` have at most 15 digits, so that no sum overflows. `now` is the caller's, and may be any number.
+    /// Tests the tag, the length of the nonce, and the times at `now`, in seconds since 1970. Fails with the first of these that is wrong. The times
+    /// of `input` have at most 15 digits, so that no sum overflows. `now` is the caller's, and may be any number.
     fn check_parameters(&self, input: &Input, now: u64) -> Result<(), Unproved> {
         let faults = [
             (input.tag != fields::TAG, Unproved::OtherTag),
@@ -184,9 +184,10 @@ impl<N: TakeNonce> Requests<N> {
         }
     }
 
-    /// Tests the method, the target and the authority of a message, that each covered field is there once, and that its authorization, certificates
-    /// and digest are covered, as far as it has them. Returns the signed text, and the digest of the body if one is covered. Fails with the first of
-    /// these tests that fails, or if no digest is covered although the request may have a body, or if the digest cannot be read.
+    /// Tests the method, the target and the authority of a message, that each covered field is there once with a value that can be signed, and that
+    /// its authorization, certificates and digest are covered, as far as it has them. Returns the signed text, and the digest of the body if one is
+    /// covered. Fails with the first of these tests that fails, or if no digest is covered although the request may have a body, or if the digest
+    /// cannot be read.
     fn check_message(
         &self,
         message: &Message,

@@ -594,7 +594,8 @@ fn refusals_name_the_part() {
 }
 
 /// By the library's own limits a question has at most 16 certificates and 64 strings. A limit above the highest is the highest, and one of 0 the
-/// library's own, also beside another that is set, such as `work(7)`, which no decision needs.
+/// library's own, also beside another that is set, such as `work(7)`, which no decision needs. A list that cannot be read is refused before any
+/// question.
 #[test]
 fn questions_have_limits() -> Outcome {
     let decide = |limits, question: &Question| {

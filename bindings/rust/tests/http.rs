@@ -300,7 +300,7 @@ fn nonces_are_kept_in_two_sets() {
     assert!(store.take(b"another key", "a", 3360, 360).is_ok());
 }
 
-/// A nonce that was used is `NonceSeen` up to the end of its signature, here 100 seconds later. After that, here 900 seconds later, it may be
+/// A nonce that was used is `NonceSeen` while its signature has not ended, as 100 seconds later. Once it has, as 900 seconds later, the nonce may be
 /// forgotten, so it is `Expired`.
 #[test]
 fn a_nonce_is_not_taken_late() {

@@ -93,7 +93,7 @@ impl Verifier for Openssl {
     }
 }
 
-/// The SHA-256 hash of octets. If the command fails, octets 00: no key is known that has this hash.
+/// The SHA-256 hash of octets. If the command or a file fails, octets 00: no key is known that has this hash.
 #[allow(dead_code)] // (the examples without signed requests hash nothing)
 pub fn sha256(octets: &[u8]) -> [u8; 32] {
     try_sha256(octets).unwrap_or_default()

@@ -39,7 +39,7 @@ pub mod policy;
 
 /// Writes a decision as a map. `granted` says whether the request is granted. A yes has also `entry`, the number of the entry that grants it, and
 /// `until`, the last second since 1970, or null if no window ends. A refusal has `refused`, its line, and a verifier that failed has `failed`, the
-/// text of the error.
+/// text of the `Denied`, which ends with that of the verifier's error.
 ///
 /// # Errors
 ///

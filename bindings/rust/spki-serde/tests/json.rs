@@ -15,7 +15,8 @@ fn limits_of(value: Value) -> Result<Limits, String> {
     limits::deserialize(value).map_err(|error| error.to_string())
 }
 
-/// Only limits that are set are written. A number above the highest is read as the highest, and a name that is unknown or twice is an error.
+/// Only limits that are set are written. A number above the highest is read as the highest. A name that is unknown or twice, and a value that is no
+/// whole number from 0 on, is an error.
 #[test]
 fn limits_are_written_and_read() {
     let partial = Limits::default().octets(4096).work(7);

@@ -65,7 +65,7 @@ impl Kind {
 }
 
 /// The canonical text of a key that is given in transport form, and its kind. A signature of RSA has as many octets as the modulus, the first string
-/// of the key. Fails with `BadKey` if the text is longer than `MOST_KEY`, or its octets have none of the forms.
+/// of the key. Fails with `BadKey` if the text is no base64 in braces, is longer than `MOST_KEY`, or its octets have none of the forms.
 pub(super) fn key_of(text: &[u8]) -> Result<(Vec<u8>, Kind), Unproved> {
     let base64 = text
         .strip_prefix(b"{")
