@@ -99,7 +99,7 @@ class Driver:
         return count_one_call(choose_counter(), [self.program, way, path], calls)
 
     def build_opening(self):
-        """Builds opening.c, which counts memory, and returns the path of the program."""
+        """Builds opening.c, which counts memory, and returns the path of the program. Raises CalledProcessError if it does not compile."""
         program = os.path.join(self.folder, "opening")
         words = ["cc", *FLAGS, "-Wl,--wrap=malloc,--wrap=realloc,--wrap=free", "-I", os.path.join(TOP, "crates", "spki_c"), "-o", program]
         subprocess.run([*words, os.path.join(BENCH, "opening.c"), self.library], check=True)
@@ -195,7 +195,7 @@ def beside_digests(driver):
 
 
 def build_in_rust(driver):
-    """Builds service.rs, and returns the path of the program."""
+    """Builds service.rs, and returns the path of the program. Raises CalledProcessError if it does not compile."""
     crate = os.path.join(driver.folder, "rust")
     os.makedirs(crate)
     with open(os.path.join(crate, "Cargo.toml"), "w", encoding="utf-8") as file:
@@ -391,8 +391,8 @@ def equal_strings(entries, *prefixes):
 
 def wide_shapes():
     """The shapes of linear.py, and more with large tags."""
-    ranges = [Shape("", make) for make in (narrowed_ranges, ranges_and_sets_of_two, ten_large_sets)]
-    return (*SHAPES, LARGE_TAG, LARGE_TAG_AND_RANGE, LARGE_TAG_AND_SET, *ranges)
+    others = [Shape("", make) for make in (narrowed_ranges, ranges_and_sets_of_two, ten_large_sets)]
+    return (*SHAPES, LARGE_TAG, LARGE_TAG_AND_RANGE, LARGE_TAG_AND_SET, *others)
 
 
 def decisions_by_default(driver):
