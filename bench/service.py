@@ -332,7 +332,8 @@ def measure_question(driver, what, text):
 
 
 def key_of_lists(entries, lists):
-    """A case of entries for the first issuer, and a certificate for a key with so many lists: no line of a reduction is longer."""
+    """A case of entries for the first issuer, and a certificate for a key with so many lists. A reduction has this key in the line of each entry:
+    once all these lines were made, also those behind the limit of the answer, and that took 13 s."""
     issuer = keys_of(0)[0]
     subject = group(string("public-key"), group(string("test"), *[group(string("a"))] * lists))
     return case([entry(issuer)] * entries, [(certificate(issuer, subject), issuer)], asks=subject)
