@@ -75,8 +75,8 @@ put() {
 }
 
 # package NAME ARCHITECTURE SECTION FIELDS SHORT LONG: makes a package of the folder NAME in $room. FIELDS are further lines of its control file, as
-# Depends, SHORT is its description in one line, and LONG in more, of which all but the first begin with a space. Its size is counted as Debian counts:
-# KiB of each file, rounded up, and 1 for all else.
+# Depends, SHORT is its description in one line, and LONG in more, of which all but the first begin with a space. Its size is counted as Debian
+# counts: KiB of each file, rounded up, and 1 for each folder and link.
 package() {
     local name=$1 architecture=$2 section=$3 fields=$4 short=$5 long=$6 folder=$room/$1 size
     install -d "$folder/DEBIAN" "$folder/usr/share/doc/$name"
@@ -147,7 +147,8 @@ place_in_doc() {
     echo "${place#docs/}"
 }
 
-# Builds the daemon over $library, and makes its package: the program, its units, its pages and examples, and its scripts.
+# Builds the daemon over $library, and makes its package: the program, its units, its pages and examples, and its scripts. What only runs an example
+# on loopback, scripts and loopback.conf, is left out.
 package_daemon() {
     local units=() unit page depends
     install -d "$room/spki-authd/usr/bin" "$room/spki-authd/lib/systemd/system" "$room/spki-authd/DEBIAN"

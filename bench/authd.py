@@ -94,7 +94,8 @@ def run_soak(site, process, seconds):
 
 
 def growth(memory):
-    """The memory in the last quarter since it settled, divided by that in the first quarter. Before it has settled it grows in any case."""
+    """The memory in the last quarter of a soak since it settled, divided by that in the first quarter. `memory` is the list that `run_soak` returns.
+    Before it has settled it grows in any case."""
     settled = memory[round(len(memory) * SETTLED):]
     part = max(1, len(settled) // 4)
     return sum(settled[-part:]) / sum(settled[:part])

@@ -1,5 +1,5 @@
-"""What `authd.py` measures: an access list of 10,000 entries, chains of three certificates, the daemon, the handler that says 200 to all, nginx
-before each of them, and the load of wrk."""
+"""What `authd.py` and `dashboard.py` measure: an access list of 10,000 entries, chains of three certificates, the daemon, the handler that says 200
+to all, nginx before each of them, and the load of wrk."""
 import base64
 import contextlib
 import json
@@ -73,7 +73,7 @@ class Figures:
     """What wrk has measured: requests, their rate a second, percentiles in ms, and errors."""
 
     def __init__(self, output):
-        """Reads the line `figures` of the output of wrk. Ends the whole bench if there is no such line."""
+        """Reads the line `figures` of the output of wrk. Raises SystemExit if there is no such line."""
         line = re.search(r"^figures (\d+) (\d+) (\d+) (\d+) (\d+)$", output, re.MULTILINE)
         if not line:
             sys.exit(f"wrk has failed: {output[-1000:]}")
@@ -220,7 +220,7 @@ class Site:
 
     def load(self, port, seconds, connections, delay=0):
         """What wrk measures at a port of nginx. Each connection waits `delay` ms before a request, on average: the script draws a time from 0 to
-        twice as long. Ends the whole bench if wrk fails."""
+        twice as long. Raises SystemExit if wrk fails."""
         script = self.write("load.lua", LUA % (HOT, self.path("chains"), 2 * delay))
         words = ["wrk", "-t", "2", "-c", str(connections), "-d", f"{seconds}s", "--timeout", "10s", "-s", script, f"http://127.0.0.1:{port}"]
         return Figures(subprocess.run(words, stdout=subprocess.PIPE, stderr=subprocess.STDOUT, text=True).stdout)

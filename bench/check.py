@@ -62,7 +62,8 @@ def many_structures(size):
 
 
 def many_certificates(size):
-    """Returns a text and how its answer begins: a case with one certificate many times, whose signature has another digest."""
+    """Returns a text and how its answer begins: a case with one certificate many times, whose signature has another digest. So the answer is `no`,
+    though the list has an entry for the asking key: each certificate that is shown must be valid."""
     cert = group(string("cert"), group(string("issuer"), key("a")), group(string("subject"), key("b")), group(string("tag"), STAR))
     pair = cert + group(string("signature"), group(string("hash"), string("sha256"), string("d" * 32)), key("a"), string("sig"))
 

@@ -151,7 +151,7 @@ def ratio_beside_peer(form, text, seconds, peer_seconds):
     if ratio <= LIMIT_PEER:
         return ratio
     count = choose_counter()
-    # (a counter needs the whole path of the program)
+    # (by whole paths, so that no counter has to look for a program)
     commands = [[shutil.which(command[0]), *command[1:]] for command in (spki_command(form), peer_command(form))]
     own, of_peer = (counted(count, command, text.octets) for command in commands)
     return min(ratio, own / of_peer)

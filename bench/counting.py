@@ -34,7 +34,8 @@ def counted_inside(function):
 
 
 def counted_with_cache(blocks):
-    """Returns a counter of instructions, by valgrind, in runs in which the C library keeps so many freed blocks of each size."""
+    """Returns a counter of instructions, by valgrind, in runs in which the C library keeps so many freed blocks of each size: what an
+    allocation costs depends on it."""
     settings = {"GLIBC_TUNABLES": f"glibc.malloc.tcache_count={blocks}"}
     return lambda command, text: counted_by_valgrind(command, text, settings=settings)
 

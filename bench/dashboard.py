@@ -52,7 +52,7 @@ def change_list(site, seconds):
 
 
 def sample(site, seconds):
-    """Runs the load and the changes for so many seconds. Returns the metrics at each second, as `metrics` does."""
+    """Runs the load and the changes for so many seconds. Returns a list of the metrics about each second, each as `metrics` returns them."""
     threads = [threading.Thread(target=site.load, args=(site.nginx[2], seconds, CONNECTIONS, DELAY)),
                threading.Thread(target=change_list, args=(site, seconds))]
     for each in threads:

@@ -19,7 +19,7 @@ from linear import LIMIT_SUM, MEMBERS, SHAPES, SIZES
 
 LIMIT_RATIO = 4
 LIMIT_OF_KEYS = 32
-# The members of a set of which two have nearly 1,000,000 as the product of their nodes.
+# The members of a set of which two have 1,000,000 as the product of their nodes.
 COPIES = 999
 
 
@@ -42,8 +42,9 @@ def measure_one_entry(count):
 
 
 def measure_many_entries(count):
-    """Prints a line for each shape of case (linear.py). Returns the largest ratio of the instructions of `explain` on many entries, by the counter
-    `count`, to the number of entries times those on one entry. The cases have about SIZES[0] octets."""
+    """Prints a line for each shape of case (linear.py) with many entries and many certificates. Returns the largest ratio of the instructions of
+    `explain` on many entries, by the counter `count`, to the number of entries times those on one entry. The cases with many have about SIZES[0]
+    octets."""
     worst = 0.0
     for shape in (shape for shape in SHAPES if shape.is_product):
         entries, certificates = shape.fitting(SIZES[0])

@@ -60,7 +60,7 @@ class Person:
         self.request = REQUEST.format(urllib.parse.quote(self_signed(private))).encode()
 
     def status(self, socket):
-        """The HTTP status of a daemon's answer to the request."""
+        """The HTTP status of the answer to the request by the daemon whose socket is at the path `socket`."""
         with connect(socket) as connection:
             connection.sendall(self.request)
             return int(connection.makefile("rb").readline().split()[1])

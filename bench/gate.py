@@ -54,7 +54,7 @@ def is_ours(process):
 
 def part_of(process, words):
     """The crate that a process checks, and the part of its checks (PARTS), by the process's number and the words of its command line. None if the
-    process is no check of a crate."""
+    process is no check of a crate. Raises OSError if it has ended meanwhile."""
     if "--crate-name" not in words:
         return None
     crate = words[words.index("--crate-name") + 1]

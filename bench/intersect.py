@@ -20,7 +20,7 @@ PROGRAM = sys.argv[1] if len(sys.argv) > 1 else BUILT
 MEMBERS = [125, 250, 500, 999]
 # For 8 times the members at most so many times the instructions; and the most MiB for an answer with the most members.
 MOST_RATIO, MOST_MEMORY = 12.0, 256
-# The most memory for an answer of 250 MB: its tag has 250,001 nodes, which share the octets of one string.
+# The most MiB for an answer of 250 MB: its tag has 250,001 nodes, which share the octets of one string.
 MOST_LONG = 64
 
 
@@ -57,7 +57,8 @@ def other_strings(n):
 
 
 def prefixes(n):
-    """Two sets of the same n prefixes: each may have something in common with each, so all pairs are tried."""
+    """Two sets of the same n prefixes, in two orders. They are equally long, so that none begins with another and each has only its equal in common
+    with the other set. Still all pairs are tried, since prefixes that differ may have something in common."""
     return set_of([prefix(f"n{i:04}") for i in range(n)]), set_of([prefix(f"n{i:04}") for i in range(n)][::-1])
 
 

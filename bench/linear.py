@@ -297,8 +297,8 @@ SHAPES = [
 
 
 def seconds_of(text):
-    """The least processor seconds of some runs, or None if a run was ended after MOST_SECONDS on the clock. Ends the script if the answer is not
-    `no`."""
+    """The least processor seconds of RUNS runs, or of fewer once these have taken ENOUGH_SECONDS together. None if a run was ended after MOST_SECONDS
+    on the clock. Ends the script if the answer is not `no`."""
     times = []
     while len(times) < RUNS and sum(times) < ENOUGH_SECONDS:
         try:

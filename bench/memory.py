@@ -32,8 +32,8 @@ def processor_seconds(words, **settings):
 
 
 def used(program, command, text):
-    """The processor seconds and the MiB of one run of a command of the program on a text. Raises ChildProcessError unless the program ends with a
-    status from 0 to 2: a run that did nothing takes little. Status 2 is a refusal."""
+    """The processor seconds and the most MiB of one run of a command of the program on a text. Raises ChildProcessError unless the program ends with
+    a status from 0 to 2: a run that did nothing takes little. Status 2 is a refusal."""
     with tempfile.NamedTemporaryFile() as file:
         file.write(text)
         file.flush()

@@ -35,8 +35,8 @@ def parts_in(folder):
 
 
 def steps_in(folder):
-    """Yields the declarations of the proofs that a check has written to a folder: the steps that the prover took, the module, and the name. They are
-    objects in JSON, each of which begins with `aux`, between other octets."""
+    """Yields the declarations of the proofs that a check has written to a folder: the steps that the prover took, the greatest number where several
+    are written, the module, and the name. They are objects in JSON, each of which begins with `aux`, between other octets."""
     for path in glob.glob(os.path.join(folder, "*", "records", "*.decls.oantt")):
         with open(path, encoding="utf-8", errors="replace") as file:
             text = file.read()

@@ -46,8 +46,8 @@ static spki_guard *open_guard(struct spki_text list, const struct spki_limits *l
     return guard;
 }
 
-/* Closes the question that is open, opens it again, lists the signatures and marks them, as a service does that finds all of them valid. Returns
- * the status of opening it. */
+/* Opens the question, lists the signatures and marks them, as a service does that finds all of them valid. If the question was open already, it is
+ * closed before. Returns the status of opening it. */
 static inline enum spki_status open_and_mark(struct held *held)
 {
     struct spki_signed signature;

@@ -174,7 +174,8 @@ class Recipe:
         return replace(self, links=(*self.links[:at], grown, *self.links[at + 1:]))
 
     def is_read(self, certificates: int) -> bool:
-        """Whether all tags have few enough nodes and are not too deep, and there are few enough certificates."""
+        """Whether the text is read and not refused: all tags have few enough nodes and are not too deep, and there are at most so many
+        certificates."""
         tags = [self.entries.tag, *(link.tag for link in self.links)]
         return (all(tag.nodes <= MOST_NODES and tag.depth <= MOST_DEPTH for tag in tags)
                 and sum(link.repeats for link in self.links) <= certificates)

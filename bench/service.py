@@ -99,7 +99,7 @@ class Driver:
         return count_one_call(choose_counter(), [self.program, way, path], calls)
 
     def build_opening(self):
-        """Builds opening.c, which counts memory, and returns the path of the program."""
+        """Builds opening.c, which counts memory, and returns the path of the program. Raises CalledProcessError if it does not compile."""
         program = os.path.join(self.folder, "opening")
         words = ["cc", *FLAGS, "-Wl,--wrap=malloc,--wrap=realloc,--wrap=free", "-I", os.path.join(TOP, "crates", "spki_c"), "-o", program]
         subprocess.run([*words, os.path.join(BENCH, "opening.c"), self.library], check=True)
@@ -195,7 +195,7 @@ def beside_digests(driver):
 
 
 def build_in_rust(driver):
-    """Builds service.rs, and returns the path of the program."""
+    """Builds service.rs, and returns the path of the program. Raises CalledProcessError if it does not compile."""
     crate = os.path.join(driver.folder, "rust")
     os.makedirs(crate)
     with open(os.path.join(crate, "Cargo.toml"), "w", encoding="utf-8") as file:
@@ -332,7 +332,8 @@ def measure_question(driver, what, text):
 
 
 def key_of_lists(entries, lists):
-    """A case of entries for the first issuer, and a certificate for a key with so many lists: no line of a reduction is longer."""
+    """A case of entries for the first issuer, and a certificate for a key with so many lists. A reduction has this key in the line of each entry:
+    once all these lines were made, also those behind the limit of the answer, and that took 13 s."""
     issuer = keys_of(0)[0]
     subject = group(string("public-key"), group(string("test"), *[group(string("a"))] * lists))
     return case([entry(issuer)] * entries, [(certificate(issuer, subject), issuer)], asks=subject)
@@ -391,8 +392,8 @@ def equal_strings(entries, *prefixes):
 
 def wide_shapes():
     """The shapes of linear.py, and more with large tags."""
-    ranges = [Shape("", make) for make in (narrowed_ranges, ranges_and_sets_of_two, ten_large_sets)]
-    return (*SHAPES, LARGE_TAG, LARGE_TAG_AND_RANGE, LARGE_TAG_AND_SET, *ranges)
+    others = [Shape("", make) for make in (narrowed_ranges, ranges_and_sets_of_two, ten_large_sets)]
+    return (*SHAPES, LARGE_TAG, LARGE_TAG_AND_RANGE, LARGE_TAG_AND_SET, *others)
 
 
 def decisions_by_default(driver):

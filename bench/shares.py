@@ -42,7 +42,7 @@ class Share:
             file.write(str(value))
 
     def take(self, process):
-        """Puts a process and its threads into the group."""
+        """Puts a process, given by its number, and its threads into the group."""
         self.write("cgroup.procs", process)
 
 

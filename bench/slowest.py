@@ -181,7 +181,7 @@ class Measure:
         return program
 
     def write(self, octets: bytes) -> None:
-        """Writes the file of the call."""
+        """Writes these octets to the file that each run reads."""
         with open(self.file, "wb") as file:
             file.write(octets)
 
@@ -267,7 +267,7 @@ def found_size(call: Call, recipe: Any, list_octets: int, question_octets: int) 
 
 def search(measure: Measure, call: Call, first: Any, chance: random.Random, steps: int) -> Iterator[tuple[float, Any]]:
     """Searches from a first recipe, by so many steps. Yields each recipe that took more time for an octet than those before: the seconds for an
-    octet, and the recipe before it was made as large."""
+    octet, and the recipe as it was before `found_size` made its text as large as a search allows."""
     change: Any = changed_form if call.word in FORMED else changed
     slowest, most = first, 0.0
     for step in range(steps + 1):

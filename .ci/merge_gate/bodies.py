@@ -48,7 +48,7 @@ def functions_changed(file: str, old: str, new: str) -> set[str | None]:
 
 def functions_of(folder: str, texts: dict[str, str]) -> list[str]:
     """The paths of the functions that an edit changes. `texts` has each file that it changes, by its path in the folder of the crate, with its text
-    after the edit. Empty if the edit changes anything outside of functions of src/."""
+    after the edit. Empty if the edit changes nothing, or anything outside of functions of src/."""
     changed: set[str | None] = set()
     for file, text in texts.items():
         with open(os.path.join(folder, file), encoding="utf-8") as old:

@@ -25,7 +25,7 @@ def try_bodies(names: list[str], counts: Counts, sums: dict[str, str]) -> None:
         return counts.add(False, f"no wrong body was tried, since rt ci has not left the libraries {', '.join(sorted(lacking))}")
 
     def verdicts(crate: Any) -> tuple[Any, list[tuple[bool, str]]]:
-        """Tries the wrong bodies of a crate. Returns the crate, and for each of them whether it is refused, and the line about it."""
+        """Tries the named wrong bodies of a crate. Returns it, and for each of them whether it is refused, and the line about it."""
         own = [name for name in names if name.partition("/")[0] == crate.name]
         chosen = bodies.paths_of(crate) if crate.name in own else [bodies.path_of_edit(crate, name) for name in own]
         with tempfile.TemporaryDirectory(prefix="trials-") as over:

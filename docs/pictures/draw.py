@@ -115,8 +115,8 @@ def of_case(name, program):
 
 
 def differing(program, is_check):
-    """Draws the pictures, by the program at a path, and writes them. `is_check`: compares them with the files instead. Returns how many differ.
-    Raises what `drawn` does, and `OSError` if a picture cannot be read or written."""
+    """Draws the pictures, by the program at a path, and writes them. `is_check`: compares them with the files instead, and prints which differ.
+    Returns how many differ, 0 if they are written. Raises what `drawn` does, and `OSError` if a picture cannot be read or written."""
     pictures, wrong = {make.__name__: make() for make in (chain, crates, octets)}, 0
     pictures.update({name: of_case(name, program) for name in CASES})
     for name, lines in pictures.items():
@@ -133,10 +133,12 @@ def differing(program, is_check):
 
 
 def main():
+    """Writes the pictures, or with --check compares them. Returns the exit status."""
     asked = argparse.ArgumentParser(description="Draws the pictures of the documents.")
     asked.add_argument("--check", action="store_true", help="write nothing, and fail if a picture is not as it is drawn")
     asked.add_argument("program", nargs="?", metavar="PROGRAM")
     given = asked.parse_args()
+    # (`given_program` takes the place of the word that names the program, and for one behind the last word the built program)
     program = given_program(sys.argv.index(given.program, 1) if given.program else len(sys.argv))
     try:
         return 1 if differing(program, given.check) else 0

@@ -25,10 +25,12 @@ PICTURES = {"playground": (1120, 1110, 0), "playground-denial": (1120, 760, 5)}
 
 
 class Camera(InChromium):
-    """The browser of the tests."""
+    """The browser of the page's tests, which here takes pictures."""
 
     def take(self, name, width, height, example):
-        """Chooses the example with a number on the page, waits for its answer, and writes the picture NAME.png, so many pixels wide and high."""
+        """Chooses the example with a number on the page, waits for its answer, and writes the picture NAME.png, so many pixels wide and high. Raises
+        AssertionError if the answer does not come, which is Yes to the first example and No to any other that is taken, and CalledProcessError if
+        pngquant fails."""
         size = {"width": width, "height": height, "deviceScaleFactor": 1, "mobile": False}
         self.browser.execute_cdp_cmd("Emulation.setDeviceMetricsOverride", size)
         self.setUp()
@@ -43,6 +45,7 @@ class Camera(InChromium):
 
 
 def main():
+    """Takes all pictures, and returns 0. Ends the script with status 1 if there is no pngquant."""
     if not shutil.which("pngquant"):
         sys.exit("there is no pngquant; Debian: pngquant")
     Camera.setUpClass()
