@@ -404,7 +404,7 @@ class HostileToLibrary(Hostile):
 
 
 class Requests(OfPage):
-    """Which requests are answered, and by which status the others are refused."""
+    """Which requests are answered, by which status the others are refused, and by what headers, address and scripts the page is kept safe."""
 
     def post(self, path=None, body="{}", **headers):
         """The status of a POST to the server, by default as the page sends it. A header's name has `_` for `-`, and one that is None is left out."""

@@ -633,7 +633,7 @@ class Heartbeat(OfStore):
 
 
 class Replicated(OfServed):
-    """Two replicas, each with a daemon. The primary is killed, and a replica takes its place."""
+    """Daemons at replicas: one of two takes the place of a primary that is killed, and HAProxy asks no daemon whose replica is behind."""
 
     def test_a_removed_entry_grants_nothing_after_a_failover(self) -> None:
         """Nobody is granted anything by an entry whose removal is older than `stale_seconds`, whatever dies."""
