@@ -1,5 +1,5 @@
-"""Tests the pictures: those of docs/pictures/ are as draw.py draws them, and examples/picture.py draws each case of examples/ with what
-the program says of it, and what stops it in red. If Graphviz is there, it must read what is drawn."""
+"""Tests the pictures: those of docs/pictures/ are as draw.py draws them, and examples/picture.py draws cases of examples/ with what the
+program says of each, and what stops it in red. If Graphviz is there, it must read what is drawn."""
 import os
 from collections.abc import Callable
 

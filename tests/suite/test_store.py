@@ -456,7 +456,7 @@ class OfServed(OfDaemon):
         return daemon
 
     def start_asker(self, daemons: list[StoreDaemon], who: Person) -> "Asker":
-        """Starts to ask daemons for a person, until `end` is called or the test ends."""
+        """Starts to ask daemons for a person, until `end` of the asker is called or the test ends."""
         asker = Asker(daemons, who)
         asker.start()
         self.addCleanup(asker.end)
