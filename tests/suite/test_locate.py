@@ -149,7 +149,7 @@ def refusal_of_part(name, text):
 
 
 class Refusals(unittest.TestCase):
-    """The refusals and places that `locate` finds in texts."""
+    """The refusals and places that `locate` finds in texts, and its exit statuses."""
 
     def check_mistake(self, text: str, refusal: str, wanted: str, place: tuple[int, int], words: str) -> None:
         """`locate`, run with a refusal or none, must show the refusal `wanted` at a line and column, with these words, and no place twice."""

@@ -18,7 +18,7 @@ CASES = {
 
 
 class Pictures(built.OfProgram):
-    """What examples/picture.py and docs/pictures/draw.py draw."""
+    """What examples/picture.py and docs/pictures/draw.py draw, and how they end if they draw nothing."""
 
     def draw(self, name: str) -> tuple[int, str]:
         """The status of examples/picture.py on a case, by its path below examples/, and what it draws."""

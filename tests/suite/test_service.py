@@ -182,7 +182,7 @@ class Service(built.OfLibrary):
 
 @needs.needs("openssl/evp.h")
 class InC(Service):
-    """The service in C as it is, under AddressSanitizer, and under valgrind."""
+    """The service in C with OpenSSL, also under AddressSanitizer and under valgrind, and with libgcrypt."""
 
     def compile(self, *more: str, verifier: str = "verify_openssl.c", library: str = "-lcrypto") -> str:
         """Compiles the service without warnings, with more options of the compiler. Returns its path. `verifier` is the source that verifies

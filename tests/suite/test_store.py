@@ -98,7 +98,7 @@ class OfStore(built.OfLibrary):
 
 
 class Command(OfStore):
-    """The command `spki-store`."""
+    """The command `spki-store`, also as `spki-cert` runs it, and how the entries of an older store are taken over."""
 
     def test_commands_one_after_another(self) -> None:
         """Entries are imported, added, removed, compared, checked, listed in the log and exported."""
@@ -234,7 +234,7 @@ class Stopping(Store):
 
 
 class Schema(OfStore):
-    """What the database itself refuses, and what it notes."""
+    """What the database itself refuses, what it lets pass, and what it notes."""
 
     def check_refused(self, fault: type[Exception], text: str, *values: Any, role: str = "") -> None:
         """The database must refuse a statement with these values by this exception. `role` is `reader` or `writer`, or empty for the owner."""
