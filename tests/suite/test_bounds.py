@@ -1,4 +1,4 @@
-"""The bounds that `bench/slowest.py` measures are those of docs/PERFORMANCE.md, its named texts are as large as they say, and its search makes the
+"""The bounds that `bench/slowest.py` measures are those of docs/PERFORMANCE.md, its named texts are no larger than they say, and its search makes the
 same texts from the same seed."""
 import os
 import random
@@ -21,7 +21,7 @@ class Bounds(unittest.TestCase):
         cls.slowest = loaded(os.path.join(BENCH, "slowest.py"))
 
     def test_table(self) -> None:
-        """The table of docs/PERFORMANCE.md has exactly the rows of the bench, and the page the seconds for each GB that a command writes."""
+        """In docs/PERFORMANCE.md the section on slow texts has exactly the rows of the bench as its table, and the seconds for each GB written."""
         section = text_of("docs/PERFORMANCE.md").split("## The texts that take longest\n")[1].split("\n## ")[0]
         table = [line for line in section.splitlines() if line.startswith("| ")]
         self.assertEqual(table, ["| Call | Time | Memory |", *self.slowest.rows()])

@@ -1,4 +1,4 @@
-"""Installs into an empty folder, asks the installed program and the installed libraries, looks at the manual, and uninstalls.
+"""Installs into a folder that has files of others, asks the installed program and libraries, looks at the manuals, and uninstalls.
 
 A C program is compiled as `pkg-config` and CMake say, and linked with the shared library and with the static one. The header, the manual of spki, the
 README and `spki.pc` must have the version of the file VERSION. The manuals must be shown without a warning, and that of spki must name every fault

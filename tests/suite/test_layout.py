@@ -45,7 +45,7 @@ def git(*words):
 
 
 class Layout(unittest.TestCase):
-    """The sources, the wrong bodies, and the line on the last run of `.ci/deep`."""
+    """The sources, the wrong bodies and their records, links, and the line on the last run of `.ci/deep`."""
 
     def test_sources_are_formatted(self) -> None:
         crates = sorted(os.path.dirname(path) for path in glob.glob(os.path.join(ROOT, "crates", "*", "src")))

@@ -125,7 +125,7 @@ def locate(text, refusal):
 
 
 def has_no_place(answer):
-    """Whether an answer (bytes) is a refusal for which `locate` shows no place."""
+    """Whether the answer of a command (bytes) is a refusal for which `locate` shows no place."""
     return answer in (b"refused TooLarge\n", b"refused Memory\n")
 
 
@@ -149,7 +149,7 @@ def refusal_of_part(name, text):
 
 
 class Refusals(unittest.TestCase):
-    """The refusals and places that `locate` finds in texts."""
+    """The refusals and places that `locate` finds in texts, and its exit statuses."""
 
     def check_mistake(self, text: str, refusal: str, wanted: str, place: tuple[int, int], words: str) -> None:
         """`locate`, run with a refusal or none, must show the refusal `wanted` at a line and column, with these words, and no place twice."""
@@ -170,7 +170,7 @@ class Refusals(unittest.TestCase):
         self.assertEqual(located, refusal, f"{place}: {command}\ntext   {text[:1000]!r}\nexpected {refusal!r}\nactual   {located!r}")
 
     def test_statuses(self) -> None:
-        """The status is 0 if the form is right or the given refusal has no place, 1 if a place is shown, and 2 if the given refusal is another."""
+        """The status is 1 if the text is refused, else 0; but 2 if the given refusal is another, or has a place and the text is not refused."""
         for text, refusal, wanted, words in STATUSES:
             with self.subTest(text):
                 status, output = locate(text, refusal)

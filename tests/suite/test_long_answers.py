@@ -11,7 +11,7 @@ from harness.support import CARGO, TESTS, canonical, output_of, room_for, text_o
 from suite import test_bindings
 from suite.test_bindings import CRATE, PYTHON, SECONDS, Asked
 
-# The calls that `counted.c` counts. 6 is the status SPKI_DONE.
+# The calls that `counted.c` counts. The last, which would take a whole case, must not be made. 6 is the status SPKI_DONE.
 NAMES = ("spki_asked_explain", "spki_asked_reduce", "spki_answer")
 ENTRIES, KEY_OCTETS, DONE = 900, 4000, 6  # (as many as make the answers as long as test_the_answers_are_long says)
 ISSUER, AT = [b"public-key", [b"test", b"a"]], b"2024-01-01_00:00:00"

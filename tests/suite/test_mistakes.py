@@ -71,7 +71,7 @@ class TestWithKeys(CommandTest):
 
 
 class OfWriting(TestWithKeys):
-    """No key and no input is written over, and a command that fails leaves the file as it is."""
+    """How files are written: over no key and no input, with no edit lost, and with a message on what is left where that fails."""
 
     def test_no_key_and_no_input_is_written_over(self):
         signs = ("sign", "--by", "alice", "--to", "bob.pub", "--tag", "(packages read)", "--days", "30")
@@ -122,8 +122,8 @@ class OfWriting(TestWithKeys):
         self.changes_nothing("key", "bob.pub", "--force", "-o", "ended", message="the file of ended certificates is there already")
 
     def check_not_shown(self, secret, *parts):
-        """A command that gets the text `secret` as a word must not write any of these parts of it. A secret in base64 alone is recognized only where
-        a command takes the name of a file. No word of a command line can have an octet 0, so then nothing is tried."""
+        """A command that gets the text `secret` as a word must refuse it, and write none of these parts of it. A secret in base64 alone is recognized
+        only where a command takes the name of a file. No word of a command line can have an octet 0, so then nothing is tried."""
         as_file = [("key", secret), ("show", secret), ("key", "alice.pub", secret), ("ask", "--acl", secret, "--key", "bob.pub", "--", "x"),
                    ("sign", "--by", secret, "--to", "bob.pub", "--tag", TAG), ("sign", "--by", "alice", "--to", secret, "--tag", TAG, "--days", "1")]
         as_word = [(secret,), ("entry", "--to", "bob.pub", "--tag", secret), ("entry", "--to", "bob.pub", "--tag", f"x {secret}"),
@@ -226,7 +226,7 @@ class OfWriting(TestWithKeys):
             self.verify(f"{number}.sexp")
 
     def test_a_temporary_file_that_stays_is_named(self):
-        """A temporary file that cannot be deleted is named, and whether the other file is written. Afterwards no signal is blocked."""
+        """A temporary file that cannot be deleted is named, and it is said whether the other file is written. Afterwards no signal is blocked."""
         for syncs, state in ((None, "written"), (OSError(28, "No space left on device"), "as before")):
             name, other = f"{state}.sexp", f"its temporary file {re.escape(os.path.realpath(self.room))}/\\.spki-cert-\\w+"
             with self.subTest(state), mock.patch.object(os, "unlink", side_effect=OSError(5, "Input/output error")), \
@@ -267,7 +267,7 @@ class OfTheLibrary(TestWithKeys):
 
 
 class OfArguments(TestWithKeys):
-    """The words of a command mean what is written, and nothing else."""
+    """The words of a command: no option is abbreviated, and what is a mistake leaves no certificate."""
 
     def test_no_option_is_abbreviated(self):
         for name, options in arguments.commands_with_options().items():
@@ -278,7 +278,7 @@ class OfArguments(TestWithKeys):
         self.assertIn("is `--named` meant?", self.sign("--name", "x", "-o", "c", wanted=2))
 
     def test_a_set_of_whole_tags_is_signed_without_a_warning(self):
-        self.sign("-o", "c.sexp", tag="(* set (packages read) (packages write))")
+        self.sign("-o", "c.sexp", tag="(* set (packages read) (packages write))")  # (status 0: a tag that is probably a mistake has 4)
 
     def test_a_command_with_a_mistake_writes_no_certificate(self):
         """No command of `mistakes.OF_WORDS` writes the file c.sexp. Each ends with the status and the words of its row."""
@@ -292,7 +292,7 @@ class OfArguments(TestWithKeys):
 
 
 class OfKeyFiles(TestWithKeys):
-    """Files of keys that people have."""
+    """Files that people have, most of them of keys: what is read in them, and what is said of them."""
 
     def test_the_option_key_chooses_one_of_several_keys(self):
         lines = [b"# alice's keys", b'from="10.0.0.0/8",command="echo #" ' + self.pairs["alice"][1] + b" alice", b"", self.pairs["bob"][1]]
@@ -391,7 +391,7 @@ class OfChains(TestWithKeys):
 
 @needs.needs(*needs.LIBRARY)
 class OfTheRightOfAChain(OfChains):
-    """`sign --chain`, by which the library decides what the chain gives to the issuer."""
+    """`sign --chain`, by which the library decides what the chain gives to the issuer, and the search of `ask` among many certificates."""
 
     # (needs no library: OfChains runs it)
     test_the_search_is_bounded = None
@@ -482,7 +482,7 @@ class OfTheRightOfAChain(OfChains):
 
 
 class Child:
-    """`spki-cert` in a forked child of this process."""
+    """`spki-cert` in a forked child of this process: it has streams and signals of its own, and starts faster than a new Python."""
 
     def __init__(self, room, words, settings, stdin="/dev/null", stdout=None, before=lambda: None):
         """Starts `spki-cert` with these words, in the folder `room`, with the environment `settings`. `stdin` is a path, and `stdout` a function that
@@ -524,7 +524,7 @@ def writing_to(path, encoding="utf-8"):
 
 
 class OfStreams(TestWithKeys):
-    """What commands say if a stream is closed, full or of another encoding. `EACH` has command lines, as words, by a name for each."""
+    """What commands say if a stream is closed, full, at its end or of another encoding. `EACH` has command lines, as words, by a name for each."""
 
     EACH = {"key": ("key", "alice.pub"), "key new": ("key", "new", "--no-passphrase", "new"), "check": ("check", "acl.sexp"),
             "sign": ("sign", "--by", "alice", "--to", "bob.pub", "--tag", TAG, "--days", "1"), "show": ("show", "to-bob"),

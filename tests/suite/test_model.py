@@ -25,7 +25,7 @@ LINE, ANY_WORD = re.compile(r"`(refused [^`]*)`"), re.compile(r"\b[A-Z]\w+")
 # The heading of a column is no such word. Allocations fail in tests/suite/test_hostile.py and tests/suite/test_clibrary.py.
 ELSEWHERE = {"Fault", "Faults", "Memory", "SPKI_NO_MEMORY"}
 CASES_ON_ARM = 2_000  # (the most: an emulator is slow)
-# The kinds of cases: each has a test of its own, named after it.
+# The kinds of cases: each that is asked has a test of its own, named after it.
 ASKED = (*COMMANDS, "check_accepted", *(f"guard {wish}" for wish in WISHES), "calls", "spki_string")
 
 
@@ -107,10 +107,10 @@ class Generated(built.OfProgram):
 
 @needs.needs(*needs.ARM, "qemu-aarch64")
 class GeneratedOnArm(built.OfProgram):
-    """The library for ARM on other cases, in an emulator."""
+    """The library for ARM on other cases, in an emulator, and the program of this machine on some of them."""
 
     def test_cases(self) -> None:
-        """The library for ARM answers each case as the model does. In the emulator relay.c does the calls that it is sent."""
+        """Both answer as the model does. In the emulator relay.c, linked with the library, does the calls that it is sent."""
         seed, cases = secrets.token_hex(4), min(built.CASES, CASES_ON_ARM)
         with tempfile.TemporaryDirectory() as folder:
             relay, source = os.path.join(folder, "relay"), os.path.join(TESTS, "programs", "relay.c")

@@ -8,7 +8,7 @@ from harness.support import text_of
 
 
 class Needs(unittest.TestCase):
-    """The list of what the tests use."""
+    """The list of what the tests use, and what may be skipped by it."""
 
     def test_table_of_the_page(self) -> None:
         self.assertIn("\n".join(needs.table()), text_of("CONTRIBUTING.md"), "CONTRIBUTING.md lacks the table that needs.py makes")

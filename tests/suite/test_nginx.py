@@ -2,7 +2,7 @@
 slow or pass limits, and the daemon is killed, hangs and is started again. test_attacks.py has the attacks. examples/nginx/run.sh, which shows the
 example, is run too, and its lines are compared. By the list of the site Ann may read and write below /web/. Ben may read there by a certificate of
 Ann, and Eve nothing. `self.site.status(WHO, METHOD, PATH)` is the status of the answer to a request of WHO: 2xx is a grant, 401 and 403 are denials,
-429 is past the rate, and 5xx says that nothing has decided. `waits_for(WHAT, IS_SO)` fails the test if that is not so after 600 seconds."""
+and 5xx says that nothing has decided. Past the rate (429) it asks again. `waits_for(WHAT, IS_SO)` fails the test if that is not so after 600 s."""
 import contextlib
 import glob
 import json
@@ -29,7 +29,7 @@ CHANGES = 20  # (how often test_list_under_load changes the list)
 
 
 class OfSite(unittest.TestCase):
-    """Tests of a site that is started once."""
+    """Tests that share one site, which is set up and started for their class."""
 
     site: Site
 
@@ -48,7 +48,7 @@ class Attacks(OfSite):
     """The requests from which the attacks of test_attacks.py are made, and an attack in the handshake of TLS."""
 
     def count_lines(self) -> int:
-        """How many lines the logs of nginx and of the daemon have together."""
+        """How many lines the logs of nginx and of the daemon that LOGS names have together."""
         return sum(self.site.text(name).count("\n") for name in LOGS)
 
     def test_what_is_granted(self) -> None:
@@ -276,10 +276,10 @@ class Changes(OfSite):
 
 @needs.needs(*served.NEEDS, *needs.LIBRARY)
 class Limits(OfSite):
-    """What clients see past the limits of nginx and of the daemon, and what the logs say."""
+    """What clients see past the limits of nginx and of the daemon, and where that hangs; and what the logs and `-health` say."""
 
     def lines(self) -> list[dict[str, Any]]:
-        """The lines of both logs of the daemon, in the order of their times."""
+        """The lines of the daemon on requests, from its log of grants and its other one, in the order of their times."""
         lines = [json.loads(line) for name in ("authd", "grants") for line in self.site.text(f"log/{name}.log").splitlines()]
         return sorted(lines, key=lambda line: str(line["time"]))
 

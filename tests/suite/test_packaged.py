@@ -296,8 +296,8 @@ class Scripts(unittest.TestCase):
             self.assertFalse(os.path.exists(os.path.join(room, "made")))
 
     def test_installing_the_daemon(self) -> None:
-        """The script makes the user, opens the configuration's folder to root and this user, and starts nothing. Programs of these names print their
-        arguments here, and do nothing else."""
+        """The script of the package makes the user, opens the configuration's folder to root and this user, and starts nothing. The programs by
+        which it would change the system are replaced by ones that print their names and arguments."""
         with tempfile.TemporaryDirectory() as room:
             for name in ("adduser", "chown", "chmod", "systemctl", "deb-systemd-invoke", "runuser"):
                 with open(os.path.join(room, name), "w", encoding="ascii") as file:

@@ -1,5 +1,5 @@
-"""Tests the pictures: those of docs/pictures/ are as draw.py draws them, and examples/picture.py draws each case of examples/ with what
-the program says of it, and what stops it in red. If Graphviz is there, it must read what is drawn."""
+"""Tests the pictures: those of docs/pictures/ are as draw.py draws them, and examples/picture.py draws cases of examples/ with what the
+program says of each, and what stops it in red. If Graphviz is there, it must read what is drawn."""
 import os
 from collections.abc import Callable
 
@@ -18,7 +18,7 @@ CASES = {
 
 
 class Pictures(built.OfProgram):
-    """What examples/picture.py and docs/pictures/draw.py draw."""
+    """What examples/picture.py and docs/pictures/draw.py draw, and how they end if they draw nothing."""
 
     def draw(self, name: str) -> tuple[int, str]:
         """The status of examples/picture.py on a case, by its path below examples/, and what it draws."""

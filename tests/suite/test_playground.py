@@ -3,8 +3,8 @@ whichever of library and program decides. A mistake must be found at its place. 
 and too long bodies are refused. Text stays text in every box. A hostile text is stopped, and the page goes on. In Chromium also: typing, the keyboard
 alone, a link, 360 pixels, and that nothing of an answer stays when it is not the answer to what is typed. The page starts where `tests/run --quick`
 has left the program, and says this command where nothing is built. `bench/playground.py` measures its times by `InChromium`. An answer is an object
-of JSON: `line` is what the program's command `check` says, `reasons` has an object for each line of `explain`, and `faults` the mistakes by box, each
-with its `places` in the text. STORY is the question of the first example, which is granted: Carol requests a right."""
+of JSON: `line` is what the program's command `check` says, `reasons` has an object for each line of `explain` but `no entries`, and `faults` the
+mistakes by box, each with its `places` in the text. STORY is the question of the first example, which is granted: Carol requests a right."""
 import contextlib
 import http.client
 import io
@@ -404,7 +404,7 @@ class HostileToLibrary(Hostile):
 
 
 class Requests(OfPage):
-    """Which requests are answered, and by which status the others are refused."""
+    """Which requests are answered, by which status the others are refused, and by what headers, address and scripts the page is kept safe."""
 
     def post(self, path=None, body="{}", **headers):
         """The status of a POST to the server, by default as the page sends it. A header's name has `_` for `-`, and one that is None is left out."""

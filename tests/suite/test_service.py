@@ -110,8 +110,8 @@ def proof_requests(story: LastingStory) -> Iterator[tuple[str, Sent, bool]]:
 
 
 def first_line_for(port: int, octets: bytes) -> bytes:
-    """The first line of what the service at a port answers to these octets. Empty if it breaks the connection, or is silent for SECONDS."""
-    # (the service may break the connection before it has read all, which raises OSError)
+    """The first line of what the service at a port answers to these octets. Empty if it is silent for SECONDS, or breaks the connection, as it may
+    before it has read all. Raises OSError if no service listens there."""
     with socket.create_connection(("127.0.0.1", port), timeout=SECONDS) as client, contextlib.suppress(OSError):
         client.sendall(octets)
         client.shutdown(socket.SHUT_WR)
@@ -133,7 +133,7 @@ NO_REQUESTS = (b"", b"\r\n\r\n", b"GET\r\n\r\n", b"GET / HTTP/1.1\r\n\r\n", b"GE
 
 @needs.needs(*needs.LIBRARY)
 class Service(built.OfLibrary):
-    """The base of tests that send requests to a service. `path` is that of its access list, and `story` has the keys and certificates."""
+    """The base of tests that ask a service, and the count of lines. `path` is that of its access list, and `story` has keys and certificates."""
 
     room: str
     path: str
@@ -182,7 +182,7 @@ class Service(built.OfLibrary):
 
 @needs.needs("openssl/evp.h")
 class InC(Service):
-    """The service in C as it is, under AddressSanitizer, and under valgrind."""
+    """The service in C with OpenSSL, also under AddressSanitizer and under valgrind, and with libgcrypt."""
 
     def compile(self, *more: str, verifier: str = "verify_openssl.c", library: str = "-lcrypto") -> str:
         """Compiles the service without warnings, with more options of the compiler. Returns its path. `verifier` is the source that verifies

@@ -85,7 +85,7 @@ class Service(http.server.ThreadingHTTPServer):
 
 @needs.needs("import cryptography")
 class SpkiCertRequest(unittest.TestCase):
-    """Requests that `spki-cert request` signs, at a service that a thread of this process runs."""
+    """Requests that `spki-cert request` signs, at a service that a thread of this process runs, and words that it refuses."""
 
     room: str
 

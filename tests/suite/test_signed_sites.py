@@ -78,7 +78,7 @@ class OfSites(unittest.TestCase):
 
     def check_left_chain(self) -> None:
         """Ben leaves Ann's certificate with the daemon, by a request that counts once. Then his requests need nothing but his key, by a signature or
-        by TLS. Before that each request of `wrong`, a method, a path, lines and a body, is refused. `check_chain` has written the file `b`."""
+        by TLS. Each request of `wrong`, a method, a path, lines and a body, is refused before, and each attack after it. `check_chain` wrote `b`."""
         path, body = attacks.LEAVING, self.site.text("b")
         signed, unsigned = self.fields("ben", path, "--body", "b"), list[str]()
         # (signed by Eve, or for another body, path or method, or not at all; or with a query, which the path to leave certificates must not have)
@@ -204,7 +204,7 @@ class Rsync(OfSites):
 
 @needs.needs(*NEEDS, *web_servers.Apache.needs)
 class Apache(OfSites):
-    """Apache reads and writes files."""
+    """Apache reads and writes files. Its example has no path at which clients leave certificates."""
 
     kind = web_servers.Apache
 

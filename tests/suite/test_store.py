@@ -98,7 +98,7 @@ class OfStore(built.OfLibrary):
 
 
 class Command(OfStore):
-    """The command `spki-store`."""
+    """The command `spki-store`, also as `spki-cert` runs it, and how the entries of an older store are taken over."""
 
     def test_commands_one_after_another(self) -> None:
         """Entries are imported, added, removed, compared, checked, listed in the log and exported."""
@@ -234,7 +234,7 @@ class Stopping(Store):
 
 
 class Schema(OfStore):
-    """What the database itself refuses, and what it notes."""
+    """What the database itself refuses, what it lets pass, and what it notes."""
 
     def check_refused(self, fault: type[Exception], text: str, *values: Any, role: str = "") -> None:
         """The database must refuse a statement with these values by this exception. `role` is `reader` or `writer`, or empty for the owner."""
@@ -456,7 +456,7 @@ class OfServed(OfDaemon):
         return daemon
 
     def start_asker(self, daemons: list[StoreDaemon], who: Person) -> "Asker":
-        """Starts to ask daemons for a person, until `end` is called or the test ends."""
+        """Starts to ask daemons for a person, until `end` of the asker is called or the test ends."""
         asker = Asker(daemons, who)
         asker.start()
         self.addCleanup(asker.end)
@@ -633,7 +633,7 @@ class Heartbeat(OfStore):
 
 
 class Replicated(OfServed):
-    """Two replicas, each with a daemon. The primary is killed, and a replica takes its place."""
+    """Daemons at replicas: one of two takes the place of a primary that is killed, and HAProxy asks no daemon whose replica is behind."""
 
     def test_a_removed_entry_grants_nothing_after_a_failover(self) -> None:
         """Nobody is granted anything by an entry whose removal is older than `stale_seconds`, whatever dies."""

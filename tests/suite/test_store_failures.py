@@ -287,8 +287,8 @@ class Daemons(WithOwnServers):
         self.assertTrue(granted)
 
     def check_cut(self, node: networks.Node, who: Person, daemon: StoreDaemon, others: tuple[StoreDaemon, ...]) -> None:
-        """While a node is cut from its network, `daemon` must fail to answer a person, and the other daemons must grant the request. Once the node
-        is back, `daemon` must grant it too. Each of its answers must change within 600 seconds."""
+        """While a node is cut from its network, `daemon` must answer a person by 503, and the other daemons must grant the request. Once the node is
+        back, `daemon` must grant it too. Each of its answers must change within 600 seconds."""
         node.cut()
         daemon.wait_for_status(503, who)
         self.assertEqual({each.status(who) for each in others}, {200})

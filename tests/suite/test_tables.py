@@ -1,6 +1,6 @@
 """Runs the program on the rows of the tables in `tables/`, on the pairs of sets of `pairs.py` and on the cases with certificates of `chains.py`. A
-row has a command, a text and the expected answer. Each is a test, which `tests/run tables/malformed:12` runs alone. `rt ci` makes the program by a
-second compiler too: if it is there, it must answer the same."""
+row has a command, a text and the expected answer. Each is a test, which `tests/run tables/malformed:12` runs alone; of the pairs, all with the same
+first set are one. `rt ci` makes the program by a second compiler too: if it is there, it must answer the same."""
 import os
 from collections import Counter
 from collections.abc import Callable, Iterable, Iterator
