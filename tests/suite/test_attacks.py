@@ -1,6 +1,6 @@
-"""The table of attacks: each attack of rows/attacks.py is sent to each of `web_servers.SERVERS`, which ask the daemon spki-authd. A server runs with
-its example's lines alone, and with lines for error pages or a cache, as other sites have them; and each of these again while the daemon is stopped. A
-row passes if each status of the answer is allowed, no file's content is sent, and no file is changed.
+"""The table of attacks: each attack of rows/attacks.py, but those that a server grants by right, is sent to each of `web_servers.SERVERS`, which ask
+the daemon spki-authd. A server runs with its example's lines alone, and with lines for error pages or a cache, as other sites have them; and each of
+these again while the daemon is stopped. A row passes if each status of the answer is allowed, no file's content is sent, and no file is changed.
 
 The gate, `.ci/run`, runs about a tenth of the rows, always the same, and SPKI_TEST_LONG all of them."""
 import hashlib
@@ -24,7 +24,7 @@ def is_chosen(row: str, share: int = 10) -> bool:
 
 
 def columns_of(kind: type[web_servers.ServerSite]) -> list[str]:
-    """The columns of a server: `plain`, `stopped`, and those for whose name `kind.sites` has configuration lines. Debian's Caddy has no cache."""
+    """The columns of a server: `plain`, `stopped`, and those whose name, without STOPPED, `kind.sites` has. Debian's Caddy has no cache."""
     return [column for column in COLUMNS if column in ("plain", "stopped") or column.removeprefix(STOPPED) in kind.sites]
 
 
@@ -51,7 +51,7 @@ class Pages(unittest.TestCase):
             self.assertIn(page.removeprefix("apps/spki-authd/"), text_of("apps/spki-authd/README.md"))
 
     def test_number_of_rows(self) -> None:
-        """Each server has at least 600 rows, so none is lost unseen, and no two rows have the same name."""
+        """Each server has at least 600 rows, so that its table does not become small unseen, and no two of them have the same name."""
         for kind in web_servers.SERVERS:
             names = [name for column in columns_of(kind) for name, _ in rows_of(kind, column)]
             self.assertGreaterEqual(len(names), 600, kind.name)
@@ -197,7 +197,7 @@ class Caddy(Table):
         self.assertEqual(self.site.status(None, "GET", "/web/index.html"), 401)
 
     def test_writing_is_denied(self) -> None:
-        """PUT and DELETE get 403 where the daemon grants them, as to the robot that may only write. Caddy 2.6.2 would answer them as GET."""
+        """PUT and DELETE get 403 where the daemon grants them, as to the robot that may only write. Caddy 2.6.2 by itself answers them as GET."""
         self.site.restart_with([])
         for method in ("PUT", "DELETE"):
             self.assertEqual(attackers.faults_of(self.site, ("robot", method, "/web/out/main.js"), {403}), [])
@@ -220,6 +220,6 @@ class Apache(Table):
     """Apache reads and writes files."""
 
     def test_delete_of_a_folder(self) -> None:
-        """DELETE of a folder without a last `/` is redirected. `redirect-carefully`, here set for all clients, would turn that off and delete it."""
+        """DELETE of a folder without a last `/` is redirected: the example unsets `redirect-carefully`, set here, by which it would be deleted."""
         self.site.restart_with([("main.conf", "# more\n", "BrowserMatch ^ redirect-carefully\n")])
         self.assertEqual(attackers.faults_of(self.site, ("ann", "DELETE", "/web/out"), {301}), [])

@@ -2,7 +2,7 @@
 hang or are gone, a disk that is full, nginx in front of it, and the files of systemd that come with it. The daemon writes a line to its log of grants
 for each grant, and denials to standard output. `self.headers()` are those that a web server sends for Alice, who may read all files.
 `self.ask_often(SOCKET, TIMES, HEADERS)` returns the statuses of the answers: 200 is a grant, 400 a denial of a malformed path, 503 a fault of the
-daemon, and 500 one that nginx has found. `daemon.run(OPTION)` runs the program once more, with this option. A wait fails after 600 seconds."""
+daemon, and 500 one that nginx has found. `daemon.run(OPTION)` runs the program once more, with this option. Most waits fail after 600 seconds."""
 import contextlib
 import json
 import os
@@ -94,11 +94,11 @@ class OfDaemon(test_go.OfGo):
         self.assertEqual(daemon.message()["event"], "started")
 
     def headers(self, target: str = "/web/a") -> dict[str, str]:
-        """The fields that a web server sends to the daemon for Alice."""
+        """The fields that a web server sends to the daemon where Alice asks for the path `target`."""
         return {"X-Original-Method": "GET", "X-Original-URI": target, "X-Client-Cert": urllib.parse.quote(self.alice.certificate)}
 
     def ask_often(self, path: str, times: int, headers: dict[str, str], target: str = "/") -> list[int]:
-        """Sends a GET request `times` times on one connection to the socket with this path. Returns the statuses of the answers."""
+        """Sends a GET request for `target` `times` times on one connection to the socket with this path. Returns the statuses of the answers."""
         statuses = []
         with contextlib.closing(OverSocket(path)) as connection:
             for _ in range(times):
@@ -203,7 +203,7 @@ class Log(OfDaemon):
                 self.assertEqual(self.ask_often(daemon.socket, 1, self.headers()), [200])
 
     def test_query_strings_are_not_logged(self) -> None:
-        """What a client writes after a `?` may be a password, and is in no log."""
+        """What a client writes after a `?` may be a password, and is in neither log, that of grants or that of denials."""
         with self.daemon() as daemon:
             for target in ("/web/a?key=hunter2", "//?key=hunter2", "/web/../a?key=hunter2", "/web/\\?hunter2", "/none?hunter2", "/web/a b?hunter2"):
                 self.ask_often(daemon.socket, 1, self.headers(target))
@@ -263,7 +263,7 @@ def managed(program: str, access_list: str) -> Iterator[Manager]:
 
 @needs.needs("openssl", "import cryptography")
 class Started(OfDaemon):
-    """The daemon under a service manager."""
+    """The daemon under a service manager; its queue where /proc/sys is hidden, as by its unit; and the group of its socket."""
 
     def test_what_the_manager_is_told(self) -> None:
         """Messages come at a reload, at one that is refused since the list has a fault, and at the end. The daemon does not remove the manager's

@@ -7,7 +7,7 @@ accepts what the case's rows do. `decide`, `explain` and `reduce` must give the 
 refused, but not as too large, is asked without its rows: a guard takes none, so it has no fault of them.
 
 Runs the tests of the Python module, mypy over its types, and of the crate its tests, those in its documents, clippy and the formatter. The examples
-`decide.c`, `decide.rs` and `decide.py`, which docs/GUIDE.md quotes, must grant and deny, by real keys and signatures. The header for C++ is called by
+`decide.c`, `decide.rs`, `decide.py` and `asynchronous.py` must grant and deny, by real keys and signatures. The header for C++ is called by
 `owned.cpp`. Threads in C++ and Rust run under helgrind. The module is installed by pip with the library inside. The crate must refuse a folder
 without a library. All must have the version of the file VERSION."""
 import functools
@@ -65,8 +65,8 @@ class Asked(NamedTuple):
 
 
 def questions(program) -> list[Asked]:
-    """The questions of all cases of the tables and chains.py, but not of texts that are no cases. Each is named by the place `FILE:LINE` of the first
-    row of a table, a command with a text and its answer, that has this case. `program` is the path of `spki`."""
+    """The questions of all cases of the tables and chains.py, but not of texts that are no cases. Each is named by the place, `tables/NAME:LINE` or
+    `chains:NAME`, of the first row, a command with a text and its answer, that has this case. `program` is the path of `spki`."""
     rows = [row for table in tables_here() for row in rows_of(table)] + [Row(*fields) for fields in chains.rows()]
     rows = [row for row in rows if row.command in COMMANDS.values() and not row.answer.startswith(NO_CASE)]
     with ThreadPoolExecutor(os.cpu_count()) as pool:
@@ -226,7 +226,7 @@ class Version(unittest.TestCase):
 
 
 class Words(unittest.TestCase):
-    """The words and numbers that the bindings have of the library."""
+    """The words and numbers that the bindings have of the library, and the names that the guide has of their calls."""
 
     def test_rust_and_python_have_the_same_words(self):
         """The crate and the package have the same words in one order, but for capitals: causes, faults and parts. A macro adds `Other` in Rust."""
@@ -251,8 +251,8 @@ class Words(unittest.TestCase):
         self.assertGreater(rows.count("\n"), 15)  # (the whole table was found)
 
     def test_highest_limits(self):
-        """The bindings have the numbers of the header for the highest limits and the usual answer. Of the usual limits, 65,536 and 2,000,000, no
-        binding has a copy. Tests, examples and the code for HTTP are not searched: these numbers may be limits of their own there."""
+        """The bindings in Rust and Python have the numbers of the header for the highest limits and the usual answer. Of the usual limits, 65,536 and
+        2,000,000, no binding has a copy. Tests, examples and code for HTTP are not searched: these numbers may be limits of their own there."""
         header = dict(re.findall(r"^#define SPKI_((?:MOST_|USUAL_ANSWER)\w*) (\d+)$", text_of("crates/spki_c/spki.h"), re.MULTILINE))
         for path, line in (("bindings/rust/spki-sys/src/lib.rs", r"^pub const (MOST_\w+|USUAL_\w+): usize = ([\d_]+);$"),
                            ("bindings/python/spki/_library.py", r"^(MOST_\w+|USUAL_\w+) = ([\d_]+)$")):

@@ -1,8 +1,8 @@
 """Compares the pages for callers, crates/*/CALLING.md, with the sources.
 
 The paragraph before a block of code ends with the block's file: the block is word for word in that file of crates/test_callers, which is proved.
-A call is a public function, or a method of a type or a trait. Each call that the library's lib.rt passes on to callers, by `pub use`, is named in the
-row of its file in the table of calls, or is a law of a file that has a row. Nothing else is named in a row. Each block and each call is a test."""
+A call is a public function, or a method of a type or a trait. Each call that the library's lib.rt passes on, by `pub use` or `pub mod`, is named in
+the row of its file in the table of calls, or is a law of a file that has a row. Nothing else is named in a row. Each block and call is a test."""
 import functools
 import glob
 import os
@@ -95,8 +95,8 @@ def is_law(name):
 
 
 def checks(crate):
-    """Yields the checks of a crate's page as pairs of texts: what each is about, and what is wrong, or None. A block of code must name a file and be
-    in it. The row of a file must have each call of it that lib.rt passes on, and no other call. Laws may be left out of it."""
+    """Yields the checks of a crate's page as pairs of texts: what each is about, and what is wrong, or None. A block of code must name a file of
+    test_callers and be in it. The row of a file must have each call of it that lib.rt passes on, and no other call. Laws may be left out of it."""
     page = page_of(crate)
     blocks = BLOCK.findall(page)
     yield "the blocks", None if 2 * len(blocks) == len(re.findall(r"^```", page, re.MULTILINE)) else "one of them has no file"

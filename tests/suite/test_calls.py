@@ -40,7 +40,7 @@ def examples() -> list[CallRow]:
 
 
 def rank(row: CallRow) -> tuple[bool, int]:
-    """How good an example a row is, as a key for sorting. A grant by a certificate is the best, and then a longer answer is better."""
+    """How good an example a row is, as a key for sorting: best is a grant by a certificate, then a longer answer, which takes more memory."""
     return row.place.startswith(BY_CERTIFICATE), len(row.answer)
 
 

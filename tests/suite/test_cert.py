@@ -502,7 +502,7 @@ class OfMistakes(CommandTest):
                     guard.open_guard(text.encode() if isinstance(text, str) else text, strict=True, limits=guard.USUAL)
 
     def test_the_files_of_a_folder_are_checked(self):
-        """`check` reads the files in a folder that are S-expressions by their names, or keys. Its status is 1 for remarks, 2 if one is refused."""
+        """`check` reads the files in a folder that are S-expressions by their names, or keys. Its status is 1 for remarks, 2 if a file is refused."""
         os.mkdir(self.at("folder"))
         self.write("folder/acl.sexp", "(acl)")
         self.write("folder/notes.txt", "(acl")
@@ -587,8 +587,8 @@ class OfWords(CommandTest):
 
     def chosen_words(self, text, case):
         """A list with the word of the one reason of a case that `ask` explains. It is empty if the model's lines of `explain` are no reasons: a
-        refusal, or `no entries`. The explanation must have two lines or more. `text` is the case in octets, and `case` its value, whose member 3 is
-        the sequence."""
+        refusal, or `no entries`. The explanation must have two lines or more. `text` is the case in octets, and `case` its value, in which
+        `case[3]` is the sequence."""
         lines = answers.answer("explain", text)[1].decode().splitlines()
         parts = [re.fullmatch(r"(?:entry (\d+) )?(?:item (\d+) )?(\w+)", line) for line in lines]
         if None in parts:
@@ -599,7 +599,7 @@ class OfWords(CommandTest):
         return [answer.chosen.word]
 
     def test_no_chain_leads_is_said_only_of_a_whole_search(self):
-        """`ask` says that no chain leads to the key only if it has searched all chains. It says so where `unused` certificates are at hand."""
+        """Where `unused` certificates are at hand, `ask` says that no chain leads to the key if it has searched all, else that none was found."""
         alice, bob = ([b"public-key", [b"test", name]] for name in (b"alice", b"bob"))
         asked = asking.Asked([b"acl", [b"entry", alice, [b"tag", [b"*"]]]], bob, b"x", NOW, Labels())
         for is_cut, wanted in ((False, ["no chain leads"]), (True, ["no chain was found that leads", "the search for chains ended after"])):
@@ -755,7 +755,7 @@ class OfAnswers(CommandTest):
 
 
 class OfOtherPrograms(CommandTest):
-    """What other programs do with keys and files of `spki-cert`: libgcrypt, Python, install.sh, pip and mypy."""
+    """What other programs do with keys and files of `spki-cert`: libgcrypt, Python, install.sh, pip and mypy; and its help, manual and version."""
     GCRYPT = r"""
 #include <gcrypt.h>
 #include <stdio.h>

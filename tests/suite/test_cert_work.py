@@ -175,7 +175,7 @@ class OfCheck(unittest.TestCase):
         self.assertEqual((text, len(gone)), (b"(acl" + other * FEW + b")", FEW))
 
     def test_compared_entries(self) -> None:
-        """`warnings_of_list` compares the tag of a new entry with the tags in the list until the work exceeds MOST_PRODUCTS. With a high bound it
+        """`warnings_of_list` compares the tag of a new entry with the tags in the list until the work reaches MOST_PRODUCTS. With a high bound it
         compares all 30, each of 60 members, and with the bound 0 none. An empty `Keys` knows that two keys differ."""
         from spki_cert_tool import certificates, making, tag_words
         wide: Any = [b"*", b"set", *[b"%03d" % at for at in range(60)]]
@@ -187,6 +187,18 @@ class OfCheck(unittest.TestCase):
                 self.assertGreaterEqual(covers.call_count, least_calls)
                 self.assertTrue(most or covers.call_count == 0)
         self.assertFalse(certificates.Keys().are_one(key("a"), key("b")))
+
+    def test_many_keys_of_a_file(self) -> None:
+        """After the first MOST_KEYS keys of a file, here 3, a last remark says that no more are looked at, and what to do. It is placed at the fourth
+        key, one line below the third. All keys are faulty, so each of the first three has a remark of its own before it."""
+        from spki_cert_tool import checking
+        with tempfile.TemporaryDirectory() as room, mock.patch.object(checking, "MOST_KEYS", 3):
+            path = os.path.join(room, "keys.pub")
+            with open(path, "wb") as file:
+                file.write(keys_in_lines(5))
+            kind, remarks = checking.remarks_on(path, NOW)
+        self.assertEqual((kind, len(remarks), remarks[-1].text), ("5 public keys", 4, "only the first 3 of these keys are looked at: split the file"))
+        self.assertEqual([(remark.line, remark.column) for remark in remarks], [(1, 1), (2, 1), (3, 1), (4, 1)])
 
 
 class OfMessages(unittest.TestCase):
@@ -252,15 +264,3 @@ class OfAsk(unittest.TestCase):
         self.assertEqual([len(part) for part in certificates.holder_of(hash_of(long), [b"n"], keys)], [32, 3])
         self.assertEqual(certificates.holder_of(hash_of(long), [], keys), certificates.holder_of(long, [], keys))
         self.assertIs(keys.text_of(hash_of(long)), keys.text_of(hash_of(long)))
-
-    def test_many_keys_of_a_file(self) -> None:
-        """After the first MOST_KEYS keys of a file, here 3, a last remark says that no more are looked at, and what to do. It is placed at the fourth
-        key, one line below the third. The keys are faulty, so each has a remark too."""
-        from spki_cert_tool import checking
-        with tempfile.TemporaryDirectory() as room, mock.patch.object(checking, "MOST_KEYS", 3):
-            path = os.path.join(room, "keys.pub")
-            with open(path, "wb") as file:
-                file.write(keys_in_lines(5))
-            kind, remarks = checking.remarks_on(path, NOW)
-        self.assertEqual((kind, len(remarks), remarks[-1].text), ("5 public keys", 4, "only the first 3 of these keys are looked at: split the file"))
-        self.assertEqual([(remark.line, remark.column) for remark in remarks], [(1, 1), (2, 1), (3, 1), (4, 1)])

@@ -1,8 +1,8 @@
 """Runs the commands of pages and helps that no other test runs: harness/page_commands.py says which.
 
-They run in a copy of the repository with what is built at its place, an empty home, and no environment but HOME and PATH. In the long tests each
-page of MACHINES runs on a machine of its own, a chroot that Debian's mmdebstrap makes (machines.py). It has the packages that the page names, those
-of `Machine.packages`, and no other."""
+They run in or beside a copy of the repository with what is built at its place, an empty home, and no environment but HOME and PATH. In the long tests
+each page of MACHINES runs on a machine of its own, a chroot that Debian's mmdebstrap makes (machines.py). It has the packages that the page names,
+those of `Machine.packages`, and no other. The first command of README, which compiles the program, runs then in the repository itself."""
 from __future__ import annotations
 
 import os
@@ -80,7 +80,7 @@ def faults_in(lines: list[str], output: str) -> list[str]:
 
 @needs.needs("import cryptography", "ssh-keygen", "openssl/evp.h", "dot", *needs.LIBRARY)
 class InACopy(built.OfLibrary):
-    """Commands in a copy of the parts of the repository that they need, with an empty home."""
+    """Commands in or beside a copy of the parts of the repository that they need, with an empty home."""
 
     room: str
 

@@ -55,7 +55,7 @@ def question(sequence, asker, request=REQUEST, moment=NOON):
 
 
 class RandomMaker:
-    """Makes random entries and questions about KEYS keys, of values: octets, or lists of values. What a choice lists twice is twice as frequent."""
+    """Makes random entries and questions about KEYS keys. Values are octets, or lists of values. What a choice lists twice is twice as frequent."""
 
     def __init__(self, seed):
         self.random = random.Random(seed)
@@ -91,7 +91,7 @@ class RandomMaker:
 
     def question(self):
         """A question with up to three certificates in a chain. Some lack a key, have a wrong signature or another request, or are asked by another
-        key. A few are refused: they have two values in the place of a sequence, or a key without content."""
+        key. A few are refused: they have two values in the place of a sequence, a key without content, or a request without strings."""
         chain = [self.random.choice(self.keys) for _ in range(self.random.randrange(4) + 1)]
         items = [key for key in chain if self.random.random() < 0.95]
         for issuer, subject in zip(chain, chain[1:]):

@@ -1,7 +1,7 @@
 """Tests that what the documents name is there: each relative link and its heading, each path of a file or folder of this repository in backticks and
 in indented commands, the versions of the manual and of README.md, which are that of the file VERSION, and the logic of the toolchain that README.md
-names, which `rt --version` prints; each definition of docs/DEFINITIONS.md, in the file of its row; and each clause that a row of docs/PROOFS.md
-names, in the function of that row (`claims.py`). README.md, and the pages together, are no longer than their limits.
+names, which `rt --version` prints; each definition of docs/DEFINITIONS.md, in the file of its row; each clause of docs/PROOFS.md and each call of
+docs/ARCHITECTURE.md, in the function of its row (`claims.py`, `ways.py`). README.md, and the pages together, are no longer than their limits.
 
 A path is what begins with a name at the top of the repository, or in the folder of the document, or with `src`, `specs` or `proofs` in the page of a
 crate; and each word in backticks that ends as a file of a kind that is here. A word in capitals stands for any name, and so does `*`. What is built,

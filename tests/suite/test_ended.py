@@ -384,7 +384,7 @@ class Adopts(TestOfEnding):
                 self.assertEqual((self.octets(ENDED), f"digests: {len(self.digests_in_file())}\n" in output), (sealed(*lines), True), output)
 
     def test_adopt_of_a_cut_file_needs_yes(self) -> None:
-        """What was probably cut is accepted only with `--yes`. A line with a digest alone has 65 octets."""
+        """A file without digests, or whose last line does not say their number, is accepted only by `--yes`. A line of a digest has 65 octets."""
         rows: list[tuple[str, bytes, list[str]]] = [
             ("empty", b"", []), ("comments", b"# x\n", ["# x"]), ("a line less", sealed(A, B)[65:], [B]),
             ("a line more", A.encode() + b"\n" + sealed(B), [A, B]), ("a cut last line", sealed(A, B)[:-9], [A, B])]

@@ -223,7 +223,7 @@ class Daemon:
 
 @needs.needs("openssl", "import cryptography")
 class Served(OfGo):
-    """The daemon as a program, with keys and certificates that other programs made."""
+    """The daemon as a program. Keys and certificates are made by other programs."""
 
     @contextlib.contextmanager
     def served(self, access_list: str, room: str) -> Iterator[Daemon]:
@@ -240,8 +240,8 @@ class Served(OfGo):
             daemon.process.communicate()
 
     def test_keys_of_each_kind(self) -> None:
-        """With keys of each kind, Alice gives Bob the right to read /web/. The daemon grants this by 200. It denies other requests by 403, or 401 if
-        no certificate is shown, and refuses a path with `..` by 400."""
+        """With keys of each kind, Alice gives Bob the right to read /web/. The daemon grants this by 200. By 403 it denies writing, a wrong signature
+        and Alice's request with Bob's certificate, by 401 Bob's without a certificate, and by 400 it refuses a path with `..`."""
         with tempfile.TemporaryDirectory() as room:
             alices = [Person(room, f"alice-{kind}", kind) for kind in KINDS]
             bobs = [Person(room, f"bob-{kind}", kind) for kind in KINDS]

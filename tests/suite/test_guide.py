@@ -25,7 +25,7 @@ from harness.support import TOP, output_of, text_of
 BLOCK = re.compile(r"^```(\w+)(?: (\S+))?\n(.*?)^```$", re.MULTILINE | re.DOTALL)
 SECONDS = 900
 END = "---- end of command ----"  # (behind what each command writes: other tests split by it too)
-# The folders of the examples that pages quote. tests/suite/test_bindings.py runs them.
+# The folders of the examples that pages quote. test_bindings.py, test_service.py and test_cache.py run them.
 PROGRAMS = ("examples/c", "bindings/rust/examples", "bindings/python/examples")
 FENCED = re.compile(r"^```.*?^```$", re.MULTILINE | re.DOTALL)
 SNIPPET_BELOW = re.compile(r"\*\*(C|Rust|Python|Go)\.\*\*")

@@ -208,8 +208,8 @@ def refused_in_turn(program, example, behind):
 
 
 def call_refused(program, row, behind):
-    """Runs of `test_one_call` on a row of test_calls.py, in which each request for memory is refused in turn, and if `behind` is ".." all later ones
-    too. Returns the number of runs, of refusals, and the faults."""
+    """Runs of `test_one_call` on a row of test_calls.py, with requests for memory refused as by `refused_in_turn`: one, and if `behind` is ".." all
+    later ones too. Returns the number of runs, of refusals, and the faults."""
     one_call = Program(built.existing(built.ONE_CALL), program.library)
     answer = 0, row.answer.hex().encode() + b"\n", b""
     return refused_in_turn(one_call, Example(row.place, row.call, row.line(), answer), behind)
@@ -298,7 +298,7 @@ def in_less_memory(program, example):
 
 
 def within_limits(program, example):
-    """An example of much work, which must take at most MOST_SECONDS and MOST_MEMORY MiB, and end with a status of the program. Its output must begin
+    """An example of much work, which must take at most MOST_SECONDS and MOST_MEMORY MiB, and end with the status 0, 1 or 2. Its output must begin
     with that of the example. Prints its line of a table. Returns 1 for one example, 0 refusals, and the faults."""
     ended = program.run(example.command, example.text)
     seconds, mebibytes = memory.used(program.path, example.command, example.text)
@@ -309,8 +309,8 @@ def within_limits(program, example):
 
 
 def with_valgrind(program, example, plan):
-    """One run under valgrind, with the settings of refuse.c in `plan`. Valgrind must find no lost memory, and no forbidden read or write. By
-    `nouserintercepts` it leaves the `malloc` of refuse.c in use. Returns the number of runs, of refusals, and the faults."""
+    """One run under valgrind, with the settings of refuse.c in `plan`. It must end as ever, or as MEMORY if memory is refused, with no lost memory
+    and no forbidden access. By `nouserintercepts` the `malloc` of refuse.c is in use. Returns the number of runs, of refusals, and the faults."""
     leaks = ["--leak-check=full", "--show-leak-kinds=definite", "--errors-for-leak-kinds=definite", "--error-exitcode=99"]
     words = ["valgrind", "-q", "--soname-synonyms=somalloc=nouserintercepts", *leaks]
     wanted = example.answer or program.run(example.command, example.text).answer
@@ -420,7 +420,7 @@ def in_small_stack():
 
 
 def less_memory():
-    """Tasks with less and less memory, on the texts that need the most work."""
+    """Tasks with each of LIMITS as the memory of a run, on the texts that need the most work."""
     for what, command, text, _ in most_work():
         yield in_less_memory, Example(what, command, text, None)
 
