@@ -140,7 +140,7 @@ func quoteSetting(value string) string {
 	return "'" + strings.NewReplacer(`\`, `\\`, `'`, `\'`).Replace(value) + "'"
 }
 
-// nameLists sets List of the configuration and of each scope: what the list is called in messages.
+// nameLists sets List of the configuration and of each scope to what source.name returns.
 func (c *config) nameLists() {
 	c.List = c.Source.name()
 	for number := range c.Lists {
