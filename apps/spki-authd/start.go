@@ -22,7 +22,7 @@ const (
 	gcOctets  = 384 << 20
 )
 
-// signals has the channels by which the daemon gets its signals. Each kind has one of its own, so that none is lost while another one waits.
+// signals has the channels by which the daemon gets its signals. Each kind has one of its own, so that none is lost while one of another kind waits.
 type signals struct {
 	reload, reopen, end chan os.Signal
 }

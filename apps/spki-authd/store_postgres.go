@@ -219,7 +219,7 @@ func stateIn(row []driver.Value) (storeState, error) {
 	return storeState{changes: numbers[1], beat: numbers[2], beaten: numbers[3]}, nil
 }
 
-// octetsIn returns a copy of the octets that a column has, or none for a column of another type.
+// octetsIn returns a copy of the octets that a column has, since those are valid until the next row alone, or none for a column of another type.
 func octetsIn(value driver.Value) []byte {
 	octets, _ := value.([]byte)
 	return append([]byte(nil), octets...)
