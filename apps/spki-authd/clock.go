@@ -16,7 +16,7 @@ type clock struct {
 // By how much a moment may be before one that another goroutine noted earlier: each reads the clock, and may be interrupted before it notes.
 const backAtLeast = time.Second
 
-// note notes a moment, and says whether it is more than backAtLeast before the one that was noted last.
+// note notes a moment. If that is more than backAtLeast before the one that was noted last, it counts once more in timesBack, and note returns true.
 func (c *clock) note(now time.Time) bool {
 	last := c.last.Swap(now.UnixNano())
 	if now.UnixNano() >= last-int64(backAtLeast) {

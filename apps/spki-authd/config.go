@@ -222,8 +222,8 @@ func (l limits) timeOfRequest() time.Duration {
 	return time.Duration(l.Seconds) * time.Second
 }
 
-// readSecret reads the secret that the web server and the daemon share, without the end of its line. It fails if others than the file's owner and group
-// may use the file, or if it is not one line of at least leastSecret visible characters.
+// readSecret reads the secret that the web server and the daemon share, without the end of its line. It fails as readFile does, if others than the
+// file's owner and group may use the file, or if it is not one line of at least leastSecret visible characters.
 func readSecret(path string) ([]byte, error) {
 	about, err := os.Stat(path)
 	if err != nil {

@@ -63,7 +63,8 @@ const mostBody = 65_536
 // would take a microsecond each.
 const looksInTime = 20
 
-// How long a connection may still begin a request when the daemon ends: one that had none yet, and one that is idle between two.
+// How long a connection may still begin a request when the daemon ends: one that had none yet, since it was opened for one, and one that is idle
+// between two.
 const (
 	graceFresh = time.Second
 	graceIdle  = 100 * time.Millisecond
@@ -224,8 +225,8 @@ func (c *connectionState) endLate(now time.Time) {
 	}
 }
 
-// end waits until each request is answered that was sent before the listener was closed, which the caller does first, and until all connections are
-// closed. It fails if the context `limit` ends before that.
+// end waits until each request is answered that was sent on an accepted connection before the listener was closed, which the caller does first, and
+// until all connections are closed. It fails if the context `limit` ends before that.
 func (s *connectionServer) end(limit context.Context) error {
 	s.isEnding.Store(true)
 	s.mutex.Lock()
@@ -290,7 +291,8 @@ func (s *connectionServer) recoverPanic() {
 // answerOne reads and answers one request, and says whether another one may follow on the connection. A request whose headers do not end in time is
 // logged as refused, and gets no answer. What is no request of HTTP/1, and a request whose headers end early, is answered by `refused`. The body of a
 // PUT, by which a client leaves certificates, is read for the answer, and the rest of it dropped afterwards; any other body is dropped before the
-// answer. After a request with a body no other one may follow.
+// answer. No other one may follow a PUT, a request with a body, one of HTTP/1.0 or with `Connection: close`, what is no request, or an answer that
+// could not be written, nor may one while the daemon ends.
 func (s *connectionServer) answerOne(connection net.Conn, reader *requestReader) bool {
 	request, err := reader.next()
 	if err != nil && errors.Is(err, os.ErrDeadlineExceeded) {

@@ -200,8 +200,8 @@ func (d *decider) decideAnew(result *record, question guard.Question, path, sequ
 
 // decideBy is decideAnew by a list. It verifies signatures only if no certificate has ended early, and the request would be granted if all signatures
 // were valid: so a client that gets no right by them costs no verification. Otherwise the record counts those in front of the first ended one as not
-// verified. If all signatures are valid, the sequence is kept for decideKnown, by its text `sequence`. It fails if a store is stale, or if the library
-// refuses the question.
+// verified. If all signatures are valid, the sequence is kept for decideKnown, by its text `sequence`. It fails if a store is stale, if the library
+// refuses the question, or with guard.ErrClosed if the list was closed.
 func (d *decider) decideBy(result *record, present *access, list *list, question guard.Question, sequence string) (guard.Decision, error) {
 	opened, err := list.guard.Ask(question)
 	if err != nil {

@@ -72,7 +72,7 @@ func (e *endedCertificates) add(line string) error {
 	return nil
 }
 
-// countLost returns how many digests of an older file are not in this one.
+// countLost returns how many digests of an older file are not in this one: a reload that would lose any is refused without `-fewer`.
 func (e *endedCertificates) countLost(older *endedCertificates) int {
 	lost := 0
 	for each := range older.digests {

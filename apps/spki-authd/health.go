@@ -32,9 +32,9 @@ func checkHealth(config *config, out io.Writer) error {
 	return err
 }
 
-// checkAnswers sends the daemon of a configuration a request that it must not grant, and fails if the answer is neither `refused` nor
-// `unauthenticated`. The request lacks the headers with the method and the URI, or, where these are not needed, as for Envoy, the client's
-// certificate.
+// checkAnswers sends the daemon of a configuration a request that it must not grant, and fails if there is no answer, or one that is neither
+// `refused` nor `unauthenticated`, or as config.client does. The request lacks the headers with the method and the URI, or, where these are not
+// needed, as for Envoy, the client's certificate.
 func (c *config) checkAnswers() error {
 	request, err := http.NewRequest(http.MethodGet, c.scheme()+"://spki-authd/", nil)
 	if err != nil {
@@ -67,8 +67,8 @@ func (c *config) scheme() string {
 	return "http"
 }
 
-// client returns a client that asks the daemon of a configuration at its socket or port, whatever the URL. By TLS it sends nothing unless the other side
-// shows the configured certificate. The error is that of reading the certificate.
+// client returns a client that asks the daemon of a configuration at its socket or port, whatever the URL. By TLS it sends nothing unless the other
+// side shows the configured certificate. The error is that of reading the certificate: then the client is not used.
 func (c *config) client() (*http.Client, error) {
 	network, address := "tcp", strings.TrimPrefix(c.Listen, tlsScheme)
 	if path := strings.TrimPrefix(c.Listen, unixScheme); path != c.Listen {

@@ -8,7 +8,7 @@ import (
 	"strings"
 )
 
-// errHost is the error for each host that two servers could read in two ways.
+// errHost is the error for a missing host, and for each that two servers could read in two ways.
 var errHost = errors.New("the host is missing or not clear")
 
 // The most octets of a host, as DNS has them.

@@ -87,8 +87,9 @@ func (c *config) targetOf(request *http.Request) (string, error) {
 	return request.RequestURI[len(c.PathPrefix):], nil
 }
 
-// hostOf returns the host that the client asks for, in small letters without a port. If that is missing or not clear, it fails with errHost, or returns
-// an empty text where neither a rule nor a list depends on the host. For a header that is there twice it always fails with errHeader.
+// hostOf returns the host that the client asks for, in small letters without a port. If that is missing or not clear, it fails with errHost, or
+// returns an empty text where neither a rule nor a list depends on the host. For a header that is there twice, or has CR, LF or NUL, it always fails
+// with errHeader.
 func (c *config) hostOf(request *http.Request) (string, error) {
 	text := request.Host
 	if c.Headers.Host != "" {

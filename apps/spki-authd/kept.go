@@ -260,8 +260,8 @@ func (f *folderChains) remove(files ...keptFile) {
 }
 
 // roomFor says whether a key can have one more sequence, of so many octets, and returns the files of those that have ended and must be removed for
-// it: none if there is room, and otherwise those of this key, and then of others, until there is. Without hasRoom, none of `ended` must be removed. It
-// removes nothing itself. The mutex is held, or no other goroutine has `f` yet.
+// it: none if there is room, and otherwise those of this key, and then of others, until there is. Without hasRoom, the caller removes none of
+// `ended`. It removes nothing itself. The mutex is held, or no other goroutine has `f` yet.
 func (f *folderChains) roomFor(key string, octets int, now time.Time) (ended []keptFile, hasRoom bool) {
 	// (each without the sequences in `ended`: how many this key has, how many keys there are, and the octets of all with the new one)
 	own, keys, total := len(f.byKey[key]), len(f.byKey), f.octets+octets

@@ -180,7 +180,8 @@ func (w *words) tasks() []string {
 	return tasks
 }
 
-// order returns the order that the flags give to the running daemon, or an empty text if they give none.
+// order returns the order that the flags give to the running daemon, or an empty text if they give none. That of -health is none of these:
+// checkHealth sends it, behind a request.
 func (w *words) order() string {
 	switch {
 	case w.isReload && w.isFewer:

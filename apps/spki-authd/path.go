@@ -7,7 +7,7 @@ import (
 	"strings"
 )
 
-// errUnclear is the error for each path that two servers could read in two ways.
+// errUnclear is the error for a path that is too long, and for each that two servers could read in two ways.
 var errUnclear = errors.New("the path is not clear")
 
 // pathOf returns the path of a request's target, decoded once, or fails with errUnclear. It accepts only what every server reads in the same way, so

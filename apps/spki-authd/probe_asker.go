@@ -35,7 +35,7 @@ const (
 	lockBody = `<?xml version="1.0"?><lockinfo xmlns="DAV:"><lockscope><exclusive/></lockscope><locktype><write/></locktype></lockinfo>`
 )
 
-// tries are all requests: each method for a plain name, and names that a web server may have rules of their own for.
+// tries are all requests: each method for a plain name, and headers and names that a web server may have rules of their own for.
 var tries = append([]try{
 	{method: "GET"}, {method: "HEAD"}, {method: "POST", body: textBody, makes: true}, {method: "PUT", body: textBody, makes: true},
 	{method: "PATCH", body: textBody, makes: true}, {method: "DELETE"}, {method: "OPTIONS"}, {method: "TRACE"}, {method: "CONNECT", needsHTTP1: true},

@@ -78,7 +78,8 @@ func (d *daemon) listenAndServe() error {
 	return d.serve(listener)
 }
 
-// flush writes the waiting lines of events, and of answers other than grants. It waits for each of the two writers no longer than its patience.
+// flush writes the waiting lines of events, and of answers other than grants: no grant is sent before its line is written. It waits for each of the
+// two writers no longer than its patience.
 func (d *daemon) flush() {
 	d.other.flush()
 	d.messages.flush()
@@ -156,8 +157,8 @@ func (d *daemon) end(listener net.Listener, connections *connectionServer) error
 	return err
 }
 
-// reload reads the access lists, the ended certificates and the certificate for TLS again: accessKeeper.reload says when it fails. An event and a message
-// to the service manager say how it went.
+// reload reads the access lists, the ended certificates and the certificate for TLS again: accessKeeper.replace says when it fails. An event and a
+// message to the service manager say how it went.
 func (d *daemon) reload(allowFewerEnded bool) error {
 	// (without its service manager the daemon reloads all the same)
 	_ = notify("RELOADING=1")

@@ -31,7 +31,7 @@ func openSocket(path string) (net.Listener, error) {
 
 // lengthenQueue sets the length of a listener's queue to mostWaiting. Go takes the length from /proc/sys, and 128 where that is hidden, as by
 // ProcSubset=pid of the daemon's unit. Where the queue of a Unix socket is full, a client that does not wait gets EAGAIN. A listener without a file
-// descriptor stays as it is.
+// descriptor stays as it is. It fails if the system refuses the new length.
 func lengthenQueue(listener net.Listener) error {
 	raw, isSystem := listener.(syscall.Conn)
 	if !isSystem {
@@ -49,9 +49,9 @@ func lengthenQueue(listener net.Listener) error {
 	return err
 }
 
-// removeStale removes a socket that an ended daemon has left: one that refuses connections. Nothing else is removed: it fails if the file is no socket, if
-// another daemon answers there, or if connecting fails otherwise, as where the queue of another daemon is full. Without a file at the path it does
-// nothing.
+// removeStale removes a socket that an ended daemon has left: one that refuses connections. Nothing else is removed: it fails if the file is no
+// socket, if another daemon answers there, if connecting fails otherwise, as where the queue of another daemon is full, or if the file cannot be
+// looked at or removed. Without a file at the path it does nothing.
 func removeStale(path string) error {
 	about, err := os.Lstat(path)
 	if errors.Is(err, fs.ErrNotExist) {

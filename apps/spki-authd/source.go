@@ -47,7 +47,7 @@ const (
 )
 
 var (
-	// A name that PostgreSQL takes without quotes: it is put into the text of statements.
+	// The names that a schema may have: without quotes they are put into the text of statements.
 	schemaName = regexp.MustCompile(`^[a-z_][a-z0-9_]{0,40}$`)
 
 	errSource = errors.New(`a list is the path of a file, or {"postgres": {..}}`)
@@ -140,7 +140,7 @@ func quoteSetting(value string) string {
 	return "'" + strings.NewReplacer(`\`, `\\`, `'`, `\'`).Replace(value) + "'"
 }
 
-// nameLists sets List of the configuration and of each scope: what the list is called in messages.
+// nameLists sets List of the configuration and of each scope to what source.name returns.
 func (c *config) nameLists() {
 	c.List = c.Source.name()
 	for number := range c.Lists {

@@ -22,7 +22,7 @@ const (
 	gcOctets  = 384 << 20
 )
 
-// signals has the channels by which the daemon gets its signals. Each kind has one of its own, so that none is lost while another one waits.
+// signals has the channels by which the daemon gets its signals. Each kind has one of its own, so that none is lost while one of another kind waits.
 type signals struct {
 	reload, reopen, end chan os.Signal
 }
@@ -39,8 +39,8 @@ func listenToSignals() signals {
 }
 
 // start reads the configuration and its files, and runs the daemon until a signal ends it. With -test it only reads and tests the files, and prints
-// what decider.test prints. With signed requests the daemon first waits for the next second. It fails if a file is refused, and as decider.test,
-// daemon.open and daemon.listenAndServe do.
+// what decider.test prints. With signed requests the daemon first waits for the next second. It fails as readConfig, openChains,
+// accessKeeper.replace, decider.test, daemon.open and daemon.listenAndServe do.
 func start(words words, out, messages io.Writer) error {
 	signals := listenToSignals()
 	debug.SetGCPercent(gcPercent)
@@ -90,7 +90,7 @@ func newDecider(config *config) *decider {
 }
 
 // test prints the number of entries of each list, or the status of its store. It returns why the log cannot be written, the socket's group cannot be
-// set, or a store cannot be read, or nil. It opens neither a socket nor the log.
+// set, or a store cannot be read or is stale, or nil. It opens neither a socket nor the log.
 func (d *decider) test(out io.Writer) error {
 	if err := checkLedgerPath(d.config.Log); err != nil {
 		return err

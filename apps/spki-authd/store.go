@@ -55,7 +55,8 @@ type reader interface {
 	chains(key digest) ([]keptChain, error)
 	// keep keeps a sequence for the key with this digest, if the limits let it, and returns the answer to the client.
 	keep(key digest, chain keptChain, limits *chains) (answer, error)
-	// renew has each connection opened anew before it is used again.
+	// renew has each connection that is open now closed before its next use, and another one opened in its place. pollOnce calls it when a poll has
+	// failed: another server may have the address by then, as after a failover, and a connection that still works may lead to the old one.
 	renew()
 }
 
@@ -83,7 +84,7 @@ type pollResult struct {
 	isCut   bool
 }
 
-// A polledState is the state that was polled last. `history` is a number for the history of changes that it belongs to, as after a failover: in another
+// A polledState is the state that was polled last. `history` counts the polls that did not follow the one before, as after a failover: in another
 // history the same number can be another change.
 type polledState struct {
 	storeState

@@ -16,9 +16,9 @@ func (s *store) poll() {
 	}
 }
 
-// pollOnce reads what has changed since the last poll. Where the changes are not known, as at the first poll or after a failover to a server that lacks
-// some, or where they are too many, it drops all lists that are kept, and reads all ended certificates again. If the reader fails, it returns that error,
-// and what was polled last stays.
+// pollOnce reads what has changed since the last poll. Where the changes are not known, as at the first poll or after a failover to a server that
+// lacks some, or where they are too many, it drops all lists that are kept, and reads all ended certificates again. If the reader fails, it returns
+// that error, what was polled last stays, and the reader's connections are renewed: another server may answer next.
 func (s *store) pollOnce() error {
 	before, begun := s.lastPolled(), s.now()
 	var result pollResult
@@ -37,7 +37,6 @@ func (s *store) pollOnce() error {
 	defer s.mutex.Unlock()
 	if err != nil {
 		s.fault = err
-		// (another server may answer next)
 		s.reader.renew()
 		return err
 	}

@@ -30,7 +30,8 @@ type pool struct {
 	slots    chan *link
 	// The SQL of each statement, by its number: askRows to askKeep.
 	texts [asks]string
-	// How often renew was called: a connection that was opened before the last call is closed before it is used again.
+	// How often renew was called: take closes a connection that was opened before the last call, since it may lead to a server that another one has
+	// replaced.
 	renewals atomic.Int64
 }
 
@@ -67,8 +68,8 @@ const (
 	microseconds = "(extract(epoch FROM c.moment) * 1000000)::bigint"
 )
 
-// openReader returns what reads a store, and waits for each read of an answer no longer than `patience`. It connects when it is asked first. The error says
-// that the settings are wrong.
+// openReader returns what reads a store, and waits no longer than `patience` for a free connection, to connect, and for each read and each write. It
+// connects when it is asked first. The error says that the settings are wrong.
 func openReader(options *storeSettings, patience time.Duration) (reader, error) {
 	connector, err := pq.NewConnector(options.connectionString())
 	if err != nil {
@@ -122,7 +123,9 @@ func (d dialer) DialTimeout(network, address string, _ time.Duration) (net.Conn,
 	return &patient{connection, d.patience}, nil
 }
 
-// renew has each connection closed before it would be used again: take then opens a new one.
+// renew has take close each connection that is open now, also one that works, and open a new one in its place. pollOnce calls it when a poll has
+// failed: after a failover another server may have the address. A connection to the old one would fail a request, or, where the old one still
+// answers, read entries of another state than is polled.
 func (p *pool) renew() {
 	p.renewals.Add(1)
 }
@@ -216,7 +219,7 @@ func stateIn(row []driver.Value) (storeState, error) {
 	return storeState{changes: numbers[1], beat: numbers[2], beaten: numbers[3]}, nil
 }
 
-// octetsIn returns a copy of the octets that a column has, or none for a column of another type.
+// octetsIn returns a copy of the octets that a column has, since those are valid until the next row alone, or none for a column of another type.
 func octetsIn(value driver.Value) []byte {
 	octets, _ := value.([]byte)
 	return append([]byte(nil), octets...)

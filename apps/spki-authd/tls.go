@@ -18,9 +18,9 @@ type tlsSettings struct {
 	present atomic.Pointer[tls.Certificate]
 }
 
-// read reads the certificate and the key, and returns both. `t` is nil for a configuration without TLS: then it returns nil and no error. It fails if
-// others than the owner and the group may use the file of the key, or if the files are no certificate and its key. The listener shows the certificate
-// only after `use`.
+// read reads the certificate and the key, and returns both. `t` is nil for a configuration without TLS: then it returns nil and no error. It fails as
+// readFile does, if others than the owner and the group may use the file of the key, or if the files are no certificate and its key. The listener
+// shows the certificate only after `use`.
 func (t *tlsSettings) read() (*tls.Certificate, error) {
 	if t == nil {
 		return nil, nil
