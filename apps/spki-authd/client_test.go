@@ -13,7 +13,7 @@ import (
 	"testing"
 )
 
-// TestCertificateForms reads the key of Alice's certificate in the form of each web server.
+// TestCertificateForms reads the key of Alice's certificate in the forms of nginx, Caddy, Traefik and Envoy.
 func TestCertificateForms(t *testing.T) {
 	alice, bob := newPerson(t), newPerson(t)
 	encoded := base64.StdEncoding.EncodeToString(alice.der)

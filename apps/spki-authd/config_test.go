@@ -13,7 +13,7 @@ import (
 const leastConfig = `{"listen": "unix:/run/x/s", "server": "nginx", "list": "/acl", "log": "/log",
  "requests": [{"prefix": "/", "methods": {"GET": "read"}, "request": ["files", "{method}", "{path}"]}]}`
 
-// TestLeastConfig reads the least configuration: each field that was left out has its usual value.
+// TestLeastConfig reads the least configuration, and compares fields that were left out with their usual values.
 func TestLeastConfig(t *testing.T) {
 	config, err := parseConfig([]byte(leastConfig))
 	if err != nil {

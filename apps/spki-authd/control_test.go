@@ -131,7 +131,8 @@ func TestControlSocket(t *testing.T) {
 	}
 }
 
-// TestBusyMainLoop sends orders to a daemon whose main loop takes none. Each is answered by errMainBusy before its connection ends, and not done.
+// TestBusyMainLoop sends orders to a daemon whose main loop takes none. Each is answered by errMainBusy before its connection ends, and nothing is
+// reloaded.
 func TestBusyMainLoop(t *testing.T) {
 	busy := &daemon{decider: newSite(t, "").decider, orders: make(chan order)}
 	reloads := busy.keeper.reloads.Load()

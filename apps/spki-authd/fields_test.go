@@ -1,6 +1,6 @@
 package main
 
-// A test of configurations that have a field twice. leastWith returns a right configuration with more fields.
+// A test of configurations that have a field twice. leastConfig is a right configuration, and leastWith returns it with more fields.
 
 import (
 	"strings"

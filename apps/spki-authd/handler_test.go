@@ -135,8 +135,8 @@ func TestAnswers(t *testing.T) {
 	}
 }
 
-// TestHeadersAndLog compares the headers and the log's lines of a grant, a denial, a refusal, and a request without certificates. No line has a whole
-// key or certificate.
+// TestHeadersAndLog compares headers of a grant, a denial, a refusal, and a request without certificates, and the log's lines of the grant and the
+// refusal. No line has a whole key or certificate.
 func TestHeadersAndLog(t *testing.T) {
 	s := newSite(t, "")
 	bobs, _ := s.sequencesShown()

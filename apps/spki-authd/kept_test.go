@@ -159,9 +159,9 @@ func (p person) signedNameCertificate(name, subject string) string {
 	return p.sign("(4:cert(6:issuer(4:name" + p.key + str(name) + "))(7:subject" + subject + "))")
 }
 
-// TestWhichChainsAreKept leaves chains of each kind. Each certificate must be signed, and the subject of the last one must be the key that signs the
-// request: Bob's. A chain without a reason in its row is kept, and any other one is refused with a reason that
-// contains that text.
+// TestWhichChainsAreKept leaves chains of many kinds. Each certificate must have a valid signature and not be past its end, and the subject of the
+// last one must be the key that signs the request: Bob's. A chain without a reason in its row is kept, and any other one is refused with a reason
+// that contains that text.
 func TestWhichChainsAreKept(t *testing.T) {
 	s := newSiteWithChains(t)
 	tag := prefixTag("read", "/web/")

@@ -185,7 +185,7 @@ func TestFailingSyncs(t *testing.T) {
 			t.Errorf("%s: %v", syncs, err)
 		}
 		disk.syncFails = false
-		// (the system has said once that lines are lost: that must be reported)
+		// (with syncSeconds the second write has called `beat` once more, which failed too: that must be reported)
 		if err := ledger.write([]byte("three\n")); (err == nil) != row.third {
 			t.Errorf("%s: %v", syncs, err)
 		}

@@ -46,8 +46,8 @@ func twoSites(t *testing.T) *site {
 	return s
 }
 
-// TestListsOfHosts asks each host with each right, twice: the second time by what the daemon keeps of a valid sequence. No right on one host counts
-// on the other. `hasList` says whether a list decides, which the log then names.
+// TestListsOfHosts asks hosts with the rights of twoSites, each time twice: the second time by what the daemon keeps of a valid sequence. No right on
+// one host counts on the other. `hasList` says whether a list decides, which the log then names.
 func TestListsOfHosts(t *testing.T) {
 	s := twoSites(t)
 	toMallory := s.alice.sign(s.alice.certificate(s.mallory, prefixTag("read", "/web/"), ""))

@@ -71,7 +71,7 @@ func TestLogThatHangs(t *testing.T) {
 }
 
 // TestNumbersOfRequests asks with numbers in X-Request-Id, and compares what the log has of them: one of over mostID octets is cut, and one with a
-// line feed or NUL is refused and left out. The log also has the number of a request that is refused for its path.
+// line feed or NUL is left out. Two numbers are refused. The log also has the number of a request that is refused for its path.
 func TestNumbersOfRequests(t *testing.T) {
 	s := newSite(t, "")
 	// (`alice[:6:6]`, all its six texts without room behind them, has append make a copy)

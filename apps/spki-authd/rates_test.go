@@ -60,7 +60,7 @@ func TestRatesAreBounded(t *testing.T) {
 }
 
 // TestAddressesOfOneClient asks from many addresses at one moment, and counts how many requests are allowed, which are at most two of each client. All IPv6
-// addresses with the same first 64 bits are one client, and so is an IPv4 address in each form.
+// addresses with the same first 64 bits are one client, and so are all forms of an IPv4 address, and what is no address, if it is the same text.
 func TestAddressesOfOneClient(t *testing.T) {
 	for name, row := range map[string]struct {
 		addresses []string

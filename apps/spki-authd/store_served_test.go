@@ -3,7 +3,7 @@
 package main
 
 // A measurement of daemons that decide by a store in PostgreSQL and are asked over HTTP. bench/store.py starts them and this test, and reads its
-// line. `hot` people ask again and again, so that the daemons keep their rows, and `cold` people once at each daemon.
+// line. Of the people, hotPeople ask again and again, so that the daemons keep their rows, and coldPeople once at each daemon.
 
 import (
 	"bufio"

@@ -337,7 +337,7 @@ func (s *storedSite) expectLeft(t *testing.T, name string, wanted answer) {
 	}
 }
 
-// TestStoredChains leaves certificates in a store, where another daemon finds them until they end. What was read is used again for cachedFor.
+// TestStoredChains leaves certificates in a store, where another daemon finds them until they end. What was just read is not read again.
 func TestStoredChains(t *testing.T) {
 	s := newStoredWithChains(t)
 	s.expectKept(t, "nothing is kept", 401, "")

@@ -11,7 +11,8 @@ import (
 )
 
 // An Asked is a question that a guard has read, with the marks of its valid signatures. It owns all that it needs, may be answered any number of
-// times, and may be used by several goroutines. A copy of it is the same question: what closes one closes both.
+// times, and may be used by several goroutines. A copy of it is the same question: what closes one closes both. The zero Asked is as one that was
+// closed.
 type Asked struct {
 	shared *sharedAsked
 	count  int

@@ -37,7 +37,7 @@ import (
 const Version = "0.2.0"
 
 // A Guard is an access list that was read once and is asked often, also by several goroutines at the same time. A copy of a Guard is the same
-// guard: what closes one closes both.
+// guard: what closes one closes both. The zero Guard is as one that was closed.
 type Guard struct {
 	shared *sharedGuard
 	log    func(Event)
@@ -55,9 +55,9 @@ type Event struct {
 	Took time.Duration
 }
 
-// Logged returns the same guard, which calls a function after each Decide, DecideContext, DecideVerified and Require, before they return. It calls
-// this function in place of that of an earlier Logged. The function may be called by several goroutines at the same time. If it panics, so does the
-// decision, and nothing is granted. It is not called for a decision whose verifier panics.
+// Logged returns a copy of the guard that calls a function after each Decide, DecideContext, DecideVerified and Require, before they return, in place
+// of that of an earlier Logged. `g` itself stays as it was. The function may be called by several goroutines at the same time. If it panics, so does
+// the decision, and nothing is granted. It is not called for a decision whose verifier panics.
 func (g *Guard) Logged(log func(Event)) *Guard {
 	return &Guard{g.shared, log, g.answerOctets}
 }
@@ -69,7 +69,7 @@ type sharedGuard struct {
 	policy Policy
 }
 
-// close frees the memory of the guard, if it is open. Go's collector calls it too, once no copy is left.
+// close closes the handle, if it is open: closeGuard says when its memory is freed. Go's collector calls it too, once no copy is left.
 func (s *sharedGuard) close() {
 	s.mutex.Lock()
 	defer s.mutex.Unlock()
@@ -100,9 +100,9 @@ type Verify func(signature Signature) bool
 // signature is valid, and nothing is granted.
 type VerifyContext func(ctx context.Context, signature Signature) (bool, error)
 
-// Open reads an access list, `(acl entry ..)`, in any of the three forms of RFC 9804. The error is a *Refusal if the text is no access list or an
-// allocation failed, ErrMisused if there is no such policy, or a limit is over the highest or below zero, and another one if the library is of
-// another version.
+// Open reads an access list, `(acl entry ..)`, in any of the three forms of RFC 9804. The error is a *Refusal if the text is no access list, is one
+// that Canonical would refuse, or an allocation failed, ErrMisused if there is no such policy, or a limit is over the highest or below zero, and
+// another one if the library is of another version.
 func Open(list []byte, policy Policy, limits Limits) (*Guard, error) {
 	if err := limits.check(); err != nil {
 		return nil, err

@@ -1,7 +1,7 @@
 // Tests of guards. Keys and signatures are words, such as a and `sig`: the verifier of a test says which signatures are valid. By `list`, an access
-// list, the key a may do everything. By the certificate `forB`, a lets b do it. questionWith(n) is a question by b, who shows `forB` n times: it can
-// be granted for n = 1 alone. By `forA` a lets itself do everything, so it may be in front of `forB`. `forgedForC` is for c, and its signature is not
-// valid. acceptAll and acceptNone are verifiers. A place is the number of a signature in its question, from 0.
+// list, the key a may do everything. By the certificate `forB`, a lets b do it. questionWith(n) is a question by b, who shows `forB` n times: under
+// `list` it can be granted for n = 1 alone. By `forA` a lets itself do everything, so it may be in front of `forB`. `forgedForC` is for c, and its
+// signature is not valid. acceptAll and acceptNone are verifiers. A place is the number of a signature in its question, from 0.
 
 package guard_test
 
@@ -118,12 +118,12 @@ func TestVerifierIsGivenWhatIsSigned(t *testing.T) {
 
 // TestZeroValuesGrantNothing shows that the zero Decision is a no, and that the zero Policy is Strict, under which a hash by SHA-1 names no key.
 func TestZeroValuesGrantNothing(t *testing.T) {
-	if (guard.Decision{}).Granted() {
-		t.Error("the zero Decision grants")
-	}
 	var zero guard.Policy
+	if (guard.Decision{}).Granted() || zero != guard.Strict {
+		t.Error("the zero Decision grants, or the zero Policy is another one: ", zero)
+	}
 	bySHA1 := fmt.Sprintf("(acl (entry (hash sha1 #%x#) (tag (*))))", sha1.Sum([]byte("(10:public-key(4:test1:b))")))
-	for policy, wanted := range map[guard.Policy]bool{zero: false, guard.Strict: false, guard.AllowSHA1: true} {
+	for policy, wanted := range map[guard.Policy]bool{guard.Strict: false, guard.AllowSHA1: true} {
 		opened, err := guard.Open([]byte(bySHA1), policy, guard.Limits{})
 		if err != nil {
 			t.Fatal(err)
@@ -483,9 +483,9 @@ func TestTwoWaysAreMisuse(t *testing.T) {
 	}
 }
 
-// TestUsualLimits exceeds each usual limit: 16 certificates, 64 words, and 65,536 octets of all texts, which the word of `long` has alone. Questions
-// at the first two limits are not refused. The highest limits allow more. A limit above the highest, as 1,048,577 octets, and a policy that does not
-// exist are ErrMisused.
+// TestUsualLimits exceeds each usual limit of a decision: 16 certificates, 64 words, and 65,536 octets of all texts, which the word of `long` has
+// alone. Questions at the first two limits are not refused. The highest limits allow more. A limit above the highest, as 1,048,577 octets, and a
+// policy that does not exist are ErrMisused.
 func TestUsualLimits(t *testing.T) {
 	opened := openGuard(t, list)
 	many, words, long := questionWith(17), questionWith(1), questionWith(1)
@@ -588,9 +588,9 @@ func TestLimitsBelowZero(t *testing.T) {
 	}
 }
 
-// TestAClockThatFailed asks at times that no clock gives: before 1970, and from the year 10000 on, which begins at 253,402,300,800. They are
-// refused, so none brings back the right that ended in 1999. The nanosecond in each does not count. The first second of 1970 and the last nanosecond
-// of the year 9999 are times like others.
+// TestAClockThatFailed asks at times that only a clock that failed gives: before 1970, and from the year 10000 on, which begins 253,402,300,800 s
+// after 1970 began. They are refused, so none brings back the right that ended in 1999. The nanosecond in each does not count. The first second of
+// 1970 and the last nanosecond of the year 9999 are times like others.
 func TestAClockThatFailed(t *testing.T) {
 	opened := openGuard(t, `(acl (entry (public-key (test b)) (tag (*)) (not-after "1999-12-31_23:59:59")))`)
 	question := questionWith(0)
@@ -621,7 +621,7 @@ func TestAClockThatFailed(t *testing.T) {
 }
 
 // TestUntil keeps a grant. It holds up to the not-after of the entry, and no second longer: the same question, asked again, has the same answer. A
-// grant without a window holds from 1970 on, a no never.
+// grant without a window holds longer, but not before 1970. A no never holds.
 func TestUntil(t *testing.T) {
 	ending := openGuard(t, `(acl (entry (public-key (test a)) (propagate) (tag (*)) (not-after "2026-06-30_23:59:59")))`)
 	last, question := time.Date(2026, 6, 30, 23, 59, 59, 0, time.UTC), questionWith(1)
@@ -769,7 +769,7 @@ func TestEachEndsWithItsQuestion(t *testing.T) {
 	}
 }
 
-// TestTooLarge limits the lines of an explanation to 5 octets. A decision needs no such room.
+// TestTooLarge explains where the lines may have 5 octets, which is ErrTooLarge. A decision needs no such room.
 func TestTooLarge(t *testing.T) {
 	opened, err := guard.Open([]byte(list), guard.Strict, guard.Limits{Answer: 5})
 	if err != nil {
@@ -843,7 +843,7 @@ func TestForms(t *testing.T) {
 }
 
 // TestTooLongTextNeedsNoLongBuffer converts a text of 16 MiB, which is refused. The buffer of an answer does not grow with it, and has little more
-// than 3 MiB: three times the longest text within the limit. The other 16 MiB are the copy of the string.
+// than 3 MiB: three times the longest text within the limit. The text itself, a copy of the string, takes 16 MiB. So 32 MiB suffice.
 func TestTooLongTextNeedsNoLongBuffer(t *testing.T) {
 	tooLong := strings.Repeat(" ", 16<<20)
 	var before, after runtime.MemStats

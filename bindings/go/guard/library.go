@@ -230,7 +230,8 @@ func closeAsked(asked askedHandle) {
 	C.spki_asked_close(asked)
 }
 
-// convert returns a text in another form. The command is SPKI_CANONICAL, SPKI_ADVANCED or SPKI_TRANSPORT. The error is a *Refusal.
+// convert returns a text in another form. The command is SPKI_CANONICAL, SPKI_ADVANCED or SPKI_TRANSPORT. The error is a *Refusal, or that the
+// library is of another version.
 func convert(command command, source []byte) ([]byte, error) {
 	// No form has more than three times the octets of another: an octet that is printed in base64 takes 7 for the 3 of its canonical text, and `a(b)`,
 	// again and again, takes 8 for 3 in transport form. A text of more than mostOctets is refused, so the buffer is bounded.

@@ -12,8 +12,8 @@ import (
 	"conguraki/spki/guard"
 )
 
-// TestClose closes a guard before its question, and both twice. The question stays open after its guard. A call on a guard or a question that is
-// closed is ErrClosed, or returns 0 or false if it has no error.
+// TestClose closes a guard before its question, and both twice. The question stays open after its guard. Once both are closed, Ask, Decide, Mark,
+// Each and Verify are ErrClosed, Entries is 0, Possible is false, and Signatures is nil.
 func TestClose(t *testing.T) {
 	opened := openGuard(t, list)
 	asked := askAndMark(t, opened, questionWith(1))
@@ -120,8 +120,8 @@ func TestZerosAreClosed(t *testing.T) {
 	expectUnlisted(t, &asked)
 }
 
-// TestGoroutines uses one guard and one question in eight goroutines. Four of them decide by a verifier that accepts, and four by one that does not.
-// All of them mark the same signature, so the question is granted.
+// TestGoroutines uses one guard and one question in eight goroutines. Four of them also ask the guard other questions by a verifier that accepts, and
+// four by one that does not: each gets its own answer. All of them mark the signature of the one question, so it is granted.
 func TestGoroutines(t *testing.T) {
 	opened := openGuard(t, list)
 	asked := askAndMark(t, opened, questionWith(1))

@@ -22,7 +22,7 @@ var (
 	ErrMisused = errors.New("libspki_c is misused")
 	// ErrDenied is what Require returns for a no.
 	ErrDenied = errors.New("no entry grants the request")
-	// ErrClosed is the error of a call after Close.
+	// ErrClosed is the error of a call after Close, and of one on a zero Guard or Asked.
 	ErrClosed = errors.New("the guard or the question is closed")
 )
 

@@ -103,7 +103,7 @@ func valueOf(algorithm string, octets []byte) []byte {
 }
 
 // stringsOf returns the strings of a canonical text at the places of `%` in a form, such as one of keyForms, and whether the text has this form. A
-// text with a string of more than 9,999 octets has none.
+// text with a string of more than 9,999 octets does not have it.
 func stringsOf(text []byte, form string) (strings [][]byte, hasForm bool) {
 	for place := 0; place < len(form); place++ {
 		if form[place] != '%' {

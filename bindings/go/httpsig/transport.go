@@ -22,7 +22,8 @@ type Transport struct {
 	Base http.RoundTripper
 }
 
-// RoundTrip sends a request, signed if it goes to one of the names, and returns the response. The whole body of a signed request is in memory.
+// RoundTrip sends a request, signed where isToOneOf allows that, and returns the response. The whole body of a signed request is in memory. The error
+// is that of signedCopy or of Base.
 func (t *Transport) RoundTrip(request *http.Request) (*http.Response, error) {
 	sender := t.Base
 	if sender == nil {

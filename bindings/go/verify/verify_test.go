@@ -190,8 +190,8 @@ func TestPointsOffTheCurve(t *testing.T) {
 	}
 }
 
-// TestKeysOfOtherKinds gives KeyOf what is none of the three kinds of key, keys that are too weak, empty ones, and a point off the curve. Each is
-// ErrKey.
+// TestKeysOfOtherKinds gives KeyOf what is no key, a key with P-521, one that is too weak, one that is too short, empty ones, and a point off the
+// curve. Each is ErrKey.
 func TestKeysOfOtherKinds(t *testing.T) {
 	other, err := ecdsa.GenerateKey(elliptic.P521(), rand.Reader)
 	if err != nil {

@@ -23,7 +23,7 @@ func must[T any](value T, err error) T {
 	return value
 }
 
-// main answers each line: `denied`, `written N` or `not written N` for a text of N octets, the octets of the file, or `nothing is there`.
+// main answers each line: `denied`, `written N` or `not written N` for N octets, the octets of a file, or, to other actions too, `nothing is there`.
 func main() {
 	if len(os.Args) != 5 {
 		log.Fatal("usage: cache ACL FOLDER KEY SEQUENCE")
@@ -33,7 +33,7 @@ func main() {
 	for lines := bufio.NewScanner(os.Stdin); lines.Scan() || must(false, lines.Err()); { // (an error, as for a line over 64 KiB, ends the program)
 		words := append(strings.SplitN(lines.Text(), " ", 3), "", "") // (of the three words some may be missing)
 		action, name, text := words[0], words[1], words[2]
-		file, isNormal := os.Args[2]+name, name != "/" && path.Clean("/"+name) == name
+		file, isNormal := os.Args[2]+name, name != "/" && path.Clean("/"+name) == name // (no `..`, which may lead out of FOLDER)
 		if request := action + " " + name; request != lastRequest || !decision.HoldsAt(time.Now()) {
 			lastRequest = request // (while its grant holds, the same request is not decided again. With an error the decision is a no)
 			decision, _ = list.Decide(guard.Question{Key: key, Sequence: sequence, Words: []string{"cache", action, name}, Time: time.Now()}, verify.Signature)
