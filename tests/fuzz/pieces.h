@@ -175,7 +175,7 @@ static void put_prefix(struct input *in, struct text *to)
     end_list(to);
 }
 
-/* Adds a tag that contains the request: the list of some of its strings, from the first on, or its one string. */
+/* Adds a tag that contains the request: the list of some of its strings, from the first on, or its one string. Of none it is `()`, no tag. */
 static void put_requested(struct input *in, struct text *to)
 {
     size_t count = question_parts->word_count > 1 ? 1 + below(in, 64) % question_parts->word_count : question_parts->word_count;

@@ -47,7 +47,7 @@ class Builder:
         self.rows: list[Value] = []
 
     def by_chance(self, chance: float) -> bool:
-        """Whether something happens that has this chance."""
+        """Whether something happens that has this chance. In `LargeTags` (rare.py) nothing under 0.1 does: so mistakes ask this, not `rng`."""
         return self.rng.random() < chance
 
     def wrong(self) -> bool:

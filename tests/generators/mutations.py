@@ -140,7 +140,7 @@ def replaced(value: Value, path: Path, parts: tuple[Value, ...]) -> Value:
 
 
 def with_near_form(value: Value, rng: random.Random) -> Value:
-    """A value in which one list becomes one that NEARLY has for its head. If no list has such a head, some part is replaced by one of LISTS."""
+    """A value in which one list is replaced by what NEARLY has for its head. If no list has such a head, some part is replaced by one of LISTS."""
     heads = [(path, head) for path in places(value) if (head := head_of(part(value, path))) in NEARLY]
     if not heads:
         return replaced(value, some_place(value, rng), (rng.choice(LISTS),))

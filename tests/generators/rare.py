@@ -58,7 +58,7 @@ class LargeTags(Builder):
         self.lengths = (1, 1, 2)
 
     def by_chance(self, chance: float) -> bool:
-        """Whether something happens that has this chance. Under 0.1 it never does: so no mistake stops the chain, and the tags are intersected."""
+        """Whether something happens that has this chance. Under 0.1 it never does: so a mistake seldom stops the chain, and tags are intersected."""
         return chance >= 0.1 and super().by_chance(chance)
 
     def tag(self) -> Value:

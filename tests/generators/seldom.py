@@ -130,7 +130,7 @@ def makers_of_texts() -> Iterator[Maker]:
 
 
 def makers_of_cases() -> Iterator[Maker]:
-    """Makers of cases with a fault, of cases beside rows with a fault, and of tags: too large a product or nearly, and PAIRS."""
+    """Makers of cases, mostly with a fault, of cases beside rows with a fault, and of tags: PAIRS, and some too large, nearly so, or too deep."""
     for number, value in enumerate(variants_of_everything()):
         yield to_command(OF_CASES[number % len(OF_CASES)], value)
     for text in ROWS:

@@ -19,7 +19,7 @@ def request(rng: random.Random, depth: int = 2) -> Value:
 
 
 def tag_for(allowed: Value, rng: random.Random, depth: int = 3) -> Value:
-    """A written tag that contains the request `allowed`, or nearly. `depth` bounds the lists inside one another."""
+    """A written tag that contains the request `allowed`, or nearly. Below `depth` lists and sets it is `(*)`, or has what is there in the request."""
     kind = rng.random()
     if kind < 0.06 or depth == 0:
         return STAR if rng.random() < 0.5 else allowed

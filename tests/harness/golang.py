@@ -1,4 +1,4 @@
-"""Runs Go's commands in `bindings/go` and `spki-authd`, on a given library, without a network. The cache of what is compiled is in tests/out/.
+"""Runs Go's commands, as in `bindings/go` and `spki-authd`, on a given library, without a network. The cache of what is compiled is in tests/out/.
 It knows nothing of libraries for C, so the digest of the library is one of the compiler's flags: with another library all is linked again."""
 import hashlib
 import os

@@ -121,7 +121,7 @@ class GuardDoor:
 
     def fault_of_answer(self, question: GuardQuestion, wanted: tuple[Answer, list[Signed]]) -> str | None:
         """What is wrong with the answer to a question, with what the library says of a decision, or with the listed signatures. None if nothing is.
-        `wanted` is what `model_answer` returns. Signatures are not compared if a call is misuse, of which the model lists none."""
+        `wanted` is what `model_answer` returns. Signatures are not compared if no question is opened or a call is misuse: the model lists none."""
         handle, asked = c_void_p(), c_void_p()
         self.truths = ()
         try:

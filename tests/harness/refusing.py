@@ -79,7 +79,7 @@ def read_to_end(reader):
 
 
 class Program:
-    """A program, and the compiled `refuse.c` by whose path `run` preloads it."""
+    """A program, and the compiled `refuse.c` by whose path `run` preloads it. What runs a command to its end returns an `Ended`."""
 
     def __init__(self, path, library):
         self.path, self.library = path, library

@@ -159,7 +159,7 @@ def is_whole_module(test: unittest.TestCase) -> bool:
 
 
 def parts_of(tests: Iterable[unittest.TestCase]) -> list[tuple[str, list[unittest.TestCase]]]:
-    """The tests in parts (name of the class, tests), those that take longest first. A class in a module of APART has several parts."""
+    """The tests in parts (name of the class, tests), those that take longest first. One of APART has parts of MOST_TOGETHER tests."""
     by_class: dict[str, list[unittest.TestCase]] = {}
     for test in tests:
         name = module_of(test) if is_whole_module(test) else f"{module_of(test)}.{type(test).__qualname__}"
@@ -226,7 +226,7 @@ def as_they_end(started: dict[Future, str]) -> Iterator[Future]:
 
 def run_all(tests: list[unittest.TestCase], jobs: int, stops_early: bool, command: str) -> list[Outcome]:
     """Runs tests in `jobs` processes, and prints their outcomes. Returns one for each part that began. `stops_early`: none begins after the first
-    failure. `command`, with the name of a test behind it, runs this test alone. A whole module that is skipped has its part here, in no process."""
+    failure. `command`, with the name of a test behind it, runs this test alone. What stands for a whole module has its part in this process."""
     parts = parts_of(tests)
     report = Report(parts, command)
     for name, part in parts:

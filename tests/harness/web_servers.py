@@ -64,7 +64,7 @@ class ServerSite(served.Site):
         self.restart_replacing([(name, place, place + lines) for name, place, lines in more])
 
     def restart_asking_port(self, port: int) -> None:
-        """Starts the server again, so that it asks the daemon by TLS on this port of loopback."""
+        """Starts the server again, so that it asks the daemon by TLS on this port of loopback, if it can (`on_port`)."""
         self.restart_replacing([(name, place, lines.replace("{port}", str(port))) for name, place, lines in self.on_port])
 
     def restart_replacing(self, changes: list[tuple[str, str, str]]) -> None:
@@ -268,7 +268,7 @@ class FileHandler(Handler):
     do_HEAD, do_POST, do_PATCH, do_OPTIONS, do_MOVE, do_COPY = do_GET, do_PUT, do_PUT, do_GET, do_DELETE, do_PUT
 
     def file(self) -> str:
-        """The path of the file that the request names. If a link is on the way to it, the path of a file that does not exist."""
+        """The path of the file that the request names. With a link or `..` on the way, or a slash at the end: that of a file that is not there."""
         server = self.server
         assert isinstance(server, FileServer)
         path = os.path.join(server.folder, unquote(self.path.partition("?")[0]).lstrip("/"))

@@ -1,8 +1,8 @@
 """The lines and exit statuses of the commands, and of decisions by rows apart (sections "The program", "The library for C programs").
 
 An answer is a pair: the exit status, and what the program writes. `rows` of a case, or apart from it, are its accepted signatures, `(by KEY HASH
-VALUE)` each. `X.count_use(..)` counts a row of a table of the document. A chain is an entry
-with all certificates of the sequence. Steps are the certificates that passed the tests of evidence, each with the number of its item."""
+VALUE)` each. `X.count_use(..)` counts a row of a table of the document. A chain is an entry with all certificates of the sequence. Steps are the
+certificates that passed the tests of evidence, each with the number of its item."""
 from collections.abc import Callable
 from contextlib import AbstractContextManager
 
@@ -234,7 +234,7 @@ def why_not_granted(authorization: Authorization, case: Case) -> str | None:
 
 
 def explain(case: Case, rows: list[Row]) -> Answer:
-    """The answer of `explain`, a line for each entry: that it grants the request, or why it does not. YES if some entry grants it."""
+    """The answer of `explain`, by `entry_lines`: of each entry that it grants the request, or why it does not. YES if some entry grants it."""
     def reason(authorization: Authorization) -> bytes:
         """`grants`, or the word for why it does not grant."""
         row = why_not_granted(authorization, case) or "grants"
@@ -245,7 +245,7 @@ def explain(case: Case, rows: list[Row]) -> Answer:
 
 
 def reduce(case: Case, rows: list[Row]) -> Answer:
-    """The answer of `reduce`, a line for each entry: the authorization that it becomes, or where its chain stops. YES if one is not stopped."""
+    """The answer of `reduce`, by `entry_lines`: the authorization that each entry becomes, or where its chain stops. YES if one does not stop."""
     def five(authorization: Authorization) -> bytes:
         """The printed text of the authorization, a 5-tuple."""
         LINES.count_use("entry N FIVE")

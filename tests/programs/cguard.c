@@ -255,7 +255,7 @@ static void refused_lists(void)
     spki_guard_close(NULL);
 }
 
-/* Questions that are too long, lack parts or have null pointers. */
+/* Questions that are too long, lack parts, or have null pointers or a wrong size; and what calls do with no question. */
 static void refused_questions(void)
 {
     struct spki_limits low = SPKI_USUAL_LIMITS;

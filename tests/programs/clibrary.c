@@ -181,7 +181,7 @@ static void expect_misuse(void)
         fail("misuse leaves a line, or writes to the buffer");
 }
 
-/* Reads the next question, and returns whether there was one. A text without octets is a null pointer. Ends the program if a text is cut off. */
+/* Reads the next question. Returns 0 at the end, or for another form. A text without octets is a null pointer. Ends the program if one is cut off. */
 static int read_question(struct question *asked)
 {
     memset(asked, 0, sizeof *asked);

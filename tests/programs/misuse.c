@@ -153,7 +153,7 @@ static void wrong_numbers(void)
     expect(!octets, "spki_string: path");
 }
 
-/* Handles and places of results that are null must be misuse, and so must a moment or a request that is given in two ways. */
+/* Null handles and places of results must be misuse, or 0 or false without a status, and a moment or a request that is given in two ways too. */
 static void nulls(void)
 {
     struct spki_question question = good_question(), twice = question;

@@ -184,7 +184,7 @@ static int refusals()
     return 0;
 }
 
-// A login proves its key. A certificate proves nothing about who shows it.
+// A login proves its key. A certificate proves nothing about who shows it. A time before 1970 is refused.
 static int logins()
 {
     const spki::signature login = {"(public-key (test b))", "(5:login7:service5:nonce)", "3:sig", "sig"};

@@ -60,7 +60,7 @@ def unescaped(field: bytes) -> bytes:
 
 
 def rows_of(table: str) -> Iterator[Row]:
-    """The rows of a table, by its path. A row of `any` becomes one for each command. Raises ValueError for a line without exactly four fields."""
+    """The rows of a table, by its path: of `any` one for each command. Raises ValueError for a line of another form, and what `unescaped` raises."""
     with open(table, "rb") as lines:
         for number, line in enumerate(lines, 1):
             line = line.rstrip(b"\n")

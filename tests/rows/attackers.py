@@ -32,7 +32,7 @@ DENIED, UNDECIDED = {400, 401, 403, 404, 405, 409}, {500, 502, 503}
 
 
 def changes_of(site: Site, answer: bytes) -> Iterator[str]:
-    """A line for each file of CONTENTS whose content is in an answer, and for each of the site's files that an attack has changed or made."""
+    """A line for each file of CONTENTS whose content is in an answer or has changed, and for each made. Raises FileNotFoundError if one is gone."""
     for name, content in CONTENTS.items():
         if content in answer:
             yield f"{name} is sent"

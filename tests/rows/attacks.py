@@ -55,7 +55,7 @@ def raw(text: str) -> bytes:
 
 
 def attacks_by_headers() -> Iterator[Plain]:
-    """Requests in which clients send headers that only the web server may set: Eve, who has no right, and others who ask for more than they may."""
+    """Requests by Eve, who has no right, or for more than a client may, with headers that only a web server sets, or that ask for other handling."""
     for what, *lines in [
             ("Ann's certificate in the server's header", "X-Client-Cert: {ann}"),
             ("the same in lower case", "x-client-cert: {ann}"), ("the same with an underscore", "X_Client_Cert: {ann}"),
@@ -77,7 +77,7 @@ def attacks_by_headers() -> Iterator[Plain]:
 
 
 def attacks_by_doubled_parts() -> Iterator[Plain]:
-    """Requests in which a header or a whole request comes twice, a part is missing, malformed or too long, or an address is there for the path."""
+    """Requests in which a header or all comes twice, a part is missing, malformed, too long or only announced, or an address stands for the path."""
     shown, basic = "Authorization: SPKI {ben}", "Authorization: Basic YW5uOmFubg=="
     yield "two headers with certificates, the first of another scheme", "ben", request(WEB, basic, shown)
     yield "two headers with certificates, the first of others", "ben", request(WEB, "Authorization: SPKI {ended}", shown)
@@ -109,7 +109,7 @@ def attacks_by_doubled_parts() -> Iterator[Plain]:
 
 
 def attacks_by_methods() -> Iterator[Plain]:
-    """Methods that the configuration does not name, methods without a right, and versions of HTTP."""
+    """Methods that the configuration does not name, methods without a right, versions of HTTP, and another protocol."""
     for method in ("POST", "PATCH", "OPTIONS", "TRACE", "CONNECT", "PROPFIND", "MKCOL", "get", "GETX", "G\0T"):
         yield f"the method {method!r}", "ann", request(WEB, method=method, body="x" if method == "POST" else "")
     yield "the method 'PUT\\t'", "ben", request(WEB, "Authorization: SPKI {ben}", method="PUT\t", body="ben")
@@ -154,7 +154,7 @@ def attacks_by_paths() -> Iterator[Plain]:
 
 
 def attacks_by_certificates() -> Iterator[Plain]:
-    """Requests with certificates of others, with changed ones, and by clients that do not hold the key. `name` is one of `Attackers.sequences`."""
+    """Requests by clients without the key, or with certificates that are malformed or give no such right. `name` is one of `Attackers.sequences`."""
     yield "no certificate for TLS", None, request(WEB)
     yield "Ben's certificates by no key", None, request(WEB, "Authorization: SPKI {ben}")
     yield "Ben's certificates sent again by Eve's key", "eve", request(WEB, "Authorization: SPKI {ben}")

@@ -62,7 +62,7 @@ def members_of(text: bytes) -> Any:
 
 def of_verifiers() -> Iterator[CallRow]:
     """What calls answer to cases by a verifier: the rows of the case, others, `all` (which accepts each signature) or `broken` (which lacks memory).
-    `judge` answers the first item that fails a test of evidence and the cause, or how many certificates pass."""
+    `judge` answers the first item that fails a test of evidence and the cause, or how many certificates pass. `Case::read` takes no verifier."""
     right, none = delegation(row(C1, KA), KA), delegation("", KA)
     other, shown = delegation(row(C1, KB), KB), case_by_hash(KA)
     differs = case_by_hash(KA, is_changed=True)
