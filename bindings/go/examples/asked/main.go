@@ -37,7 +37,7 @@ func (i *input) nextString() string {
 	if i.fault = err; err != nil {
 		return ""
 	}
-	length, err := strconv.Atoi(strings.TrimSuffix(digits, ":"))
+	length, err := strconv.ParseUint(strings.TrimSuffix(digits, ":"), 10, 31)
 	if i.fault = err; err != nil {
 		return ""
 	}
@@ -48,7 +48,7 @@ func (i *input) nextString() string {
 
 // nextList reads the number of strings, and then these strings, which it returns. It returns nil if the number cannot be read.
 func (i *input) nextList() []string {
-	count, err := strconv.Atoi(i.nextString())
+	count, err := strconv.ParseUint(i.nextString(), 10, 31)
 	if err != nil {
 		return nil
 	}

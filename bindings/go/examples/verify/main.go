@@ -16,7 +16,7 @@ import (
 
 // nextString reads a string, LENGTH:OCTETS, and returns its octets. There is an error at the end of the input, and where no such string is.
 func nextString(input *bufio.Reader) ([]byte, error) {
-	var length int
+	var length uint32
 	if _, err := fmt.Fscanf(input, "%d:", &length); err != nil {
 		return nil, err
 	}
