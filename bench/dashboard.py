@@ -7,12 +7,12 @@ the first issuer of each chain, is taken from the list, after a half a reload is
 Needs what authd.py needs. Usage: bench/dashboard.py [--seconds N] [LIBRARY]
 """
 import argparse
+import concurrent.futures
 import os
 import re
 import subprocess
 import sys
 import tempfile
-import threading
 import time
 from xml.sax.saxutils import escape
 
@@ -52,17 +52,16 @@ def change_list(site, seconds):
 
 
 def sample(site, seconds):
-    """Runs the load and the changes for so many seconds. Returns a list of the metrics about each second, each as `metrics` returns them."""
-    threads = [threading.Thread(target=site.load, args=(site.nginx[2], seconds, CONNECTIONS, DELAY)),
-               threading.Thread(target=change_list, args=(site, seconds))]
-    for each in threads:
-        each.start()
+    """Runs the load and the changes for so many seconds. Returns a list of the metrics about each second, each as `metrics` returns them. Raises
+    SystemExit if wrk fails."""
     samples = []
-    for _ in range(seconds):
-        samples.append(metrics(site))
-        time.sleep(1)
-    for each in threads:
-        each.join()
+    with concurrent.futures.ThreadPoolExecutor() as pool:
+        running = [pool.submit(site.load, site.nginx[2], seconds, CONNECTIONS, DELAY), pool.submit(change_list, site, seconds)]
+        for _ in range(seconds):
+            samples.append(metrics(site))
+            time.sleep(1)
+    for each in running:
+        each.result()
     return samples
 
 

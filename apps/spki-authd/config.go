@@ -9,6 +9,7 @@ import (
 	"fmt"
 	"io"
 	"os"
+	"reflect"
 	"strings"
 	"time"
 
@@ -107,13 +108,31 @@ func parseConfig(octets []byte) (*config, error) {
 	decoder.DisallowUnknownFields()
 	config := new(config)
 	if err := decoder.Decode(config); err != nil {
-		return nil, err
+		return nil, worded(err)
 	}
 	if _, err := decoder.Token(); !errors.Is(err, io.EOF) {
 		return nil, errors.New("something follows the configuration")
 	}
 	config.setUsual()
 	return config, config.check()
+}
+
+// expected has what errors call the types that fields of a configuration have.
+var expected = map[reflect.Kind]string{reflect.String: "a string", reflect.Int: "a whole number", reflect.Bool: "true or false",
+	reflect.Slice: "an array", reflect.Map: "an object", reflect.Struct: "an object"}
+
+// worded returns an error of encoding/json for those who write configurations: it names the field of a value of a wrong type, and no type of Go.
+// Other errors stay as they are.
+func worded(err error) error {
+	var wrong *json.UnmarshalTypeError
+	if !errors.As(err, &wrong) {
+		return err
+	}
+	text := fmt.Sprintf("expected %s, found %s", expected[wrong.Type.Kind()], wrong.Value)
+	if wrong.Field == "" {
+		return errors.New(text)
+	}
+	return fmt.Errorf("in %q: %s", wrong.Field, text)
 }
 
 // setUsual sets each field that was left out to its usual value, except those that the checks of lists, stores and chains set, and the number of

@@ -32,8 +32,8 @@ func (s *site) mustAnswer(t *testing.T, name string, who person, target, shown s
 	return s.lastLine(t)
 }
 
-// TestKeptSequencesGrantNothingByThemselves shows Carol's sequence, which is kept from its first grant on, for several paths, keys and methods, in
-// any order: each question is decided anew.
+// TestKeptSequencesGrantNothingByThemselves shows Carol's sequence, which is kept from its first grant on, for several paths and keys, in any order,
+// and then for another method: each question is decided anew.
 func TestKeptSequencesGrantNothingByThemselves(t *testing.T) {
 	s := newSite(t, "")
 	_, carols := s.sequencesShown()

@@ -65,7 +65,7 @@ func (s *source) UnmarshalJSON(text []byte) error {
 	decoder := json.NewDecoder(bytes.NewReader(text))
 	decoder.DisallowUnknownFields()
 	if err := decoder.Decode(&named); err != nil {
-		return fmt.Errorf("%w: %v", errSource, err)
+		return fmt.Errorf("%w: %v", errSource, worded(err))
 	}
 	if named.Postgres == nil {
 		return errSource

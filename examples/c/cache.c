@@ -50,6 +50,17 @@ static void answer(bool writes, const char *folder, const char *path, const char
         printf("%.*s\n", (int)length, content);
 }
 
+/* Reads a line of the input, without its line feed. False at the end, and for a line that does not fit or has an octet 00: its rest would be another
+ * request. */
+static bool reads_line(char line[MOST])
+{
+    int octet, length = 0;
+    while ((octet = getchar()) > 0 && octet != '\n' && length < MOST - 1)
+        line[length++] = (char)octet;
+    line[length] = '\0';
+    return octet == '\n' || (feof(stdin) && length > 0);
+}
+
 /* Answers each line of its input. Exit status: 0 at the end, 1 for a line that is too long or has an octet 00, 2 for wrong arguments or no list. */
 int main(int argc, char **argv)
 {
@@ -60,9 +71,7 @@ int main(int argc, char **argv)
     spki_guard *guard;
     if (spki_guard_open(text.octets, text.length, SPKI_STRICT, NULL, &guard, line, sizeof line, NULL) != SPKI_DONE)
         return 2;
-    /* (a line that does not fit, or has an octet 00, ends the program: its rest would be another request) */
-    while (fgets(line, sizeof line, stdin) && (strchr(line, '\n') || feof(stdin))) {
-        line[strcspn(line, "\n")] = '\0';
+    while (reads_line(line)) {
         char *content = line, *action = strsep(&content, " "), *path = content ? strsep(&content, " ") : "";
         const struct spki_text words[] = {SPKI_LITERAL("cache"), {action, strlen(action)}, {path, strlen(path)}};
         snprintf(request, sizeof request, "%s %s", action, path);

@@ -68,15 +68,15 @@ def tables() -> dict[str, list[CallRow]]:
 
 
 def answers(program: str, rows: Iterable[CallRow]) -> list[bytes]:
-    """What the program answers to rows, in order, and then `ended with STATUS` if its status is not 0: memory ran out, or it ended early."""
-    lines = b"".join(row.line() for row in rows)
-    done = subprocess.run([program], input=lines, stdout=subprocess.PIPE, stderr=subprocess.STDOUT, timeout=SECONDS)
-    ending = [b"ended with %d" % done.returncode] if done.returncode else []
+    """What the program answers to rows, in order. If its status is not 0, since a row has no answer or it ended early, `ended with STATUS: MESSAGE`
+    follows, with what it wrote to standard error."""
+    done = subprocess.run([program], input=b"".join(row.line() for row in rows), capture_output=True, timeout=SECONDS)
+    ending = [b"ended with %d: %s" % (done.returncode, done.stderr)] if done.returncode else []
     return [answer_of(line) for line in done.stdout.split(b"\n")[:-1]] + ending
 
 
 def answer_of(line: bytes) -> bytes:
-    """The octets that a line of the program has in hexadecimal digits, or the line itself if it has other characters, as an error message has."""
+    """The octets that a line of the program has in hexadecimal digits, or the line itself if it has other characters, as `refused Memory` has."""
     try:
         return bytes.fromhex(line.decode())
     except ValueError:

@@ -66,7 +66,7 @@ class OfCalls(unittest.TestCase):
 
     def check_row(self, name: str) -> None:
         """The program's answer to the row of this name must be the expected one. If the program ended early, with a status other than 0, the first
-        row without an answer has `ended with STATUS`, and those behind it `no answer`."""
+        row without an answer has `ended with STATUS: MESSAGE`, and those behind it `no answer`."""
         row, answer = self.rows[name], self.answers.get(name, b"no answer")
         if answer != row.answer:
             texts = "\n".join(f"text   {shown(text)}" for text in row.texts)

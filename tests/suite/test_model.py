@@ -116,11 +116,11 @@ class GeneratedOnArm(built.OfProgram):
             relay, source = os.path.join(folder, "relay"), os.path.join(TESTS, "programs", "relay.c")
             self.assertTrue(is_compiled("aarch64-linux-gnu-gcc", "-std=c11", "-O1", "-o", relay, source, built.arm()))
             relayed = Relayed([*ON_ARM, relay])
+            self.addCleanup(relayed.close)
             comparison = differential.Comparison(differential.Library(relayed), self.program, seed)
             differ, ended, _ = differential.compare(comparison, first=0, cases=cases, jobs=os.cpu_count() or 1)
             described = [differential.lines_of_case(comparison, number) for number in differ[:differential.SHOWN]]
-            relayed.close()
-        self.assertEqual((described, ended), ([], []), f"cases 0 to {cases}, seed {seed}")
+        self.assertEqual((described, ended), ([], []), f"cases 0 to {cases - 1}, seed {seed}")
 
 
 def command_test(command: str) -> Callable[[Generated], None]:

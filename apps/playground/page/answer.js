@@ -179,7 +179,7 @@ export class Answer {
   draw() {
     const width = Math.floor(byId("picture").clientWidth);
     if (this.chain && width) {
-      byId("picture").replaceChildren(picture(this.chain, width, `The chain of this answer, from the access list. ${byId("title").textContent}`));
+      byId("picture").replaceChildren(picture(this.chain, width, `The chain of this answer. ${byId("title").textContent}`));
     }
   }
 }
