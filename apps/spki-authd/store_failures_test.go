@@ -352,3 +352,16 @@ func TestFailedStatementRenews(t *testing.T) {
 		t.Errorf("%+v %+v %+v %+v", gone, other, ofList, elsewhere)
 	}
 }
+
+// TestSchemaIsQuoted opens a reader of a schema whose name is a reserved word of SQL. Each statement has it in quotes, wherever it has a schema.
+func TestSchemaIsQuoted(t *testing.T) {
+	reader, err := openReader(&storeSettings{Host: t.TempDir(), Database: "d", User: "u", Schema: "user"}, time.Second)
+	if err != nil {
+		t.Fatal(err)
+	}
+	for _, text := range reader.(*pool).texts {
+		if quoted := strings.Count(text, `"user".`); quoted == 0 || strings.Count(text, "user") != quoted {
+			t.Error(text)
+		}
+	}
+}

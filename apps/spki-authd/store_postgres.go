@@ -97,8 +97,8 @@ func openReader(options *storeSettings, patience time.Duration) (reader, error) 
 		askChains: "SELECT text, (extract(epoch FROM until) * 1000000)::bigint FROM @.chains WHERE key = $1 ORDER BY until, digest",
 		askKeep:   "SELECT @.keep($1, $2, $3, $4, $5)",
 	} {
-		// (`@` is the schema, whose name was checked)
-		opened.texts[ask] = strings.ReplaceAll(text, "@", options.Schema)
+		// (`@` is the schema, whose name was checked. It is in quotes, since it may be a reserved word of SQL such as user)
+		opened.texts[ask] = strings.ReplaceAll(text, "@", pq.QuoteIdentifier(options.Schema))
 	}
 	return opened, nil
 }
