@@ -24,9 +24,13 @@ func (c *config) openList(entries []byte) (*guard.Guard, error) {
 
 // signaturesOf returns the signatures of a sequence of certificates, at least one, whatever access list is in force. `sequence` is in transport form. It
 // verifies none. It fails with errEmpty, an errUnkept, if there is no signature, and with errUnkept if a certificate would not count even if all signatures
-// were valid: to find that, it marks them all as valid, and asks the library for a reason. It also fails with the library's refusal of the sequence. `key`
-// and `now` only complete the question.
+// were valid: to find that, it marks them all as valid, and asks the library for a reason. It also fails with the library's refusal of the sequence,
+// and with errBusy if too many questions are decided at once. `key` and `now` only complete the question.
 func (c *config) signaturesOf(sequence string, key guard.ProvenKey, now time.Time) ([]guard.Signature, error) {
+	if err := library.enter(); err != nil {
+		return nil, err
+	}
+	defer library.leave()
 	empty, err := c.openList(nil)
 	if err != nil {
 		return nil, err
@@ -60,11 +64,15 @@ func (c *config) signaturesOf(sequence string, key guard.ProvenKey, now time.Tim
 
 // namesKey says whether a principal, in canonical form, names a key: by itself or by a hash that the policy allows. It is false for any other principal,
 // such as a name. The library decides, by a list with one entry, which gives this principal everything. It fails if the library refuses that list or the
-// question. `now` only completes the question.
+// question, and with errBusy if too many questions are decided at once. `now` only completes the question.
 func (c *config) namesKey(principal []byte, key guard.ProvenKey, now time.Time) (bool, error) {
 	if !bytes.HasPrefix(principal, []byte("(10:public-key")) && !bytes.HasPrefix(principal, []byte("(4:hash")) {
 		return false, nil
 	}
+	if err := library.enter(); err != nil {
+		return false, err
+	}
+	defer library.leave()
 	list, err := c.openList([]byte("(5:entry" + string(principal) + "(3:tag(1:*)))"))
 	if err != nil {
 		return false, err

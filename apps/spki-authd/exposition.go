@@ -60,7 +60,7 @@ func (d *daemon) exposition() string {
 	text.writeValue("signatures_total", `{how="known"}`, d.counts.known.Load())
 	text.writeValue("signatures_total", `{how="verified"}`, d.counts.verified.Load())
 	text.writeValue("signatures_total", `{how="spared"}`, d.counts.spared.Load())
-	text.writeSingle("list_entries", "gauge", "Entries of all lists.", present.entries())
+	text.writeSingle("list_entries", "gauge", "Entries of all lists in files.", present.entries())
 	text.writeSingle("ended_certificates", "gauge", "Digests in the file of ended certificates.", present.ended.count)
 	text.writeFamily("state_info", "gauge", "The digests of the lists and of the ended certificates.")
 	// (such a metric always has the value 1: its labels say all)

@@ -1,14 +1,16 @@
 package main
 
-// A test of the gate before the library, which lets only so many calls of it last at the same time. Status 200 grants, and 503 is a failure of the
-// daemon.
+// Tests of the gate before the library, which lets only so many calls of it last at the same time. Status 200 grants, 201 keeps what a client leaves,
+// and 503 is a failure of the daemon.
 
 import (
+	"errors"
 	"sync"
 	"sync/atomic"
 	"testing"
 	"time"
 
+	"conguraki/spki"
 	"conguraki/spki/guard"
 )
 
@@ -65,5 +67,28 @@ func TestGateOfLibrary(t *testing.T) {
 	}
 	if most != 2 || len(library) != 0 {
 		t.Errorf("%d at once, %d have not left", most, len(library))
+	}
+}
+
+// TestPutsPassTheGate has Bob leave his certificate while the gate lets nobody through, which fails, and then while it lets one pass. The library is
+// asked twice about what is left: for the signatures, and whether the last subject is his key.
+func TestPutsPassTheGate(t *testing.T) {
+	s := newSiteWithChains(t)
+	bobs, _ := s.sequencesShown()
+	usual := library
+	library = make(gate, 1)
+	defer func() { library = usual }()
+	if err := library.enter(); err != nil {
+		t.Fatal(err)
+	}
+	if status, reply := s.leaveAs(t, s.bob, bobs); status != 503 || reply != answerFailed {
+		t.Errorf("%d %s", status, reply)
+	}
+	if _, err := s.config.namesKey([]byte(s.bob.key), spki.AssumeKey([]byte(s.bob.key)), s.now()); !errors.Is(err, errBusy) {
+		t.Error(err)
+	}
+	library.leave()
+	if status, reply := s.leaveAs(t, s.bob, bobs); status != 201 || reply != answerKept || len(library) != 0 {
+		t.Errorf("%d %s, %d have not left", status, reply, len(library))
 	}
 }

@@ -144,9 +144,14 @@ func wordsOf(arguments []string, messages io.Writer) (words, error) {
 	return words, err
 }
 
-// check returns an error for words beside the flags, which are in `rest`, for a flag without the one that it is for, and for two flags of which each says
-// what to do.
+// check returns an error for words beside the flags, which are in `rest`, for an empty -of among several, for a flag without the one that it is for,
+// and for two flags of which each says what to do.
 func (w *words) check(rest []string) error {
+	for _, control := range w.controls {
+		if control == "" {
+			return errors.New("-of is empty")
+		}
+	}
 	switch {
 	case len(rest) > 0:
 		return fmt.Errorf("%q is no flag", rest[0])

@@ -488,7 +488,8 @@ func TestCommandLines(t *testing.T) {
 		"-version":      {0, "spki-authd 0.2.0", ""}, "-help": {0, "", "-config"}, "-x": {2, "", "-x"}, "x": {2, "", "no flag"},
 		"-test -config " + config: {0, "1 entries", ""}, "-test -config " + list: {1, "", "invalid"}, "-config /none": {1, "", "no such file"},
 		"-check=": {2, "", "-check is empty"}, "-probe= -stopped": {2, "", "-probe is empty"}, "-of= -state": {2, "", "-of is empty"},
-		"-fewer": {2, "", "-reload"}, "-of x": {2, "", "-state"}, "-reload -state": {2, "", "-reload and -state"}, "-reload -config " + config: {1, "", "no such file"},
+		"-state -of x -of=": {2, "", "-of is empty"}, "-of x": {2, "", "-state"}, "-fewer": {2, "", "-reload"},
+		"-reload -state": {2, "", "-reload and -state"}, "-reload -config " + config: {1, "", "no such file"},
 	} {
 		var out, messages bytes.Buffer
 		status := run(strings.Fields(line), &out, &messages)

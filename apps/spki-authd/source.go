@@ -47,7 +47,7 @@ const (
 )
 
 var (
-	// The names that a schema may have: without quotes they are put into the text of statements.
+	// The names that a schema may have: they are put into the text of statements, in quotes.
 	schemaName = regexp.MustCompile(`^[a-z_][a-z0-9_]{0,40}$`)
 
 	errSource = errors.New(`a list is the path of a file, or {"postgres": {..}}`)

@@ -55,8 +55,9 @@ type reader interface {
 	chains(key digest) ([]keptChain, error)
 	// keep keeps a sequence for the key with this digest, if the limits let it, and returns the answer to the client.
 	keep(key digest, chain keptChain, limits *chains) (answer, error)
-	// renew has each connection that is open now closed before its next use, and another one opened in its place. pollOnce calls it when a poll has
-	// failed: another server may have the address by then, as after a failover, and a connection that still works may lead to the old one.
+	// renew has each connection that is open now closed before its next use, and another one opened in its place, also those of other readers of the
+	// same server. pollOnce calls it when a poll has failed: another server may have the address by then, as after a failover, and a connection that
+	// still works may lead to the old one.
 	renew()
 }
 

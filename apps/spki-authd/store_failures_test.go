@@ -15,6 +15,7 @@ import (
 	"strconv"
 	"strings"
 	"sync"
+	"sync/atomic"
 	"testing"
 	"time"
 
@@ -265,13 +266,19 @@ type fakeConn struct {
 	open int
 	// The texts of the statements that were run, in order.
 	ran []string
+	// Why it opens no statement, or nil, and whether it was closed.
+	fault    error
+	isClosed bool
 }
 
-// Prepare opens a statement.
+// Prepare opens a statement, or fails with c.fault.
 func (c *fakeConn) Prepare(text string) (driver.Stmt, error) {
 	c.open++
-	return &fakeStatement{conn: c, text: text}, nil
+	return &fakeStatement{conn: c, text: text}, c.fault
 }
+
+// Close closes the connection.
+func (c *fakeConn) Close() error { c.isClosed = true; return nil }
 
 // A fakeStatement is a statement of a fakeConn.
 type fakeStatement struct {
@@ -304,7 +311,7 @@ func (noRows) Next([]driver.Value) error { return io.EOF }
 // TestTransactClosesStatements runs transactions on one connection. Each text is run, and at most the last statement stays open.
 func TestTransactClosesStatements(t *testing.T) {
 	conn := new(fakeConn)
-	writer := &pool{patience: time.Second, slots: make(chan *link, 1)}
+	writer := &pool{patience: time.Second, slots: make(chan *link, 1), renewals: new(atomic.Int64)}
 	writer.slots <- &link{Conn: conn}
 	l := &timeline{changingStore: &changingStore{store: &store{options: &storeSettings{Schema: "s"}}}, writers: []*pool{writer}}
 	for turn := 0; turn < 3; turn++ {
@@ -315,5 +322,46 @@ func TestTransactClosesStatements(t *testing.T) {
 	transaction := "BEGIN READ WRITE|SELECT 1 FROM s.entries|SELECT 2|COMMIT|"
 	if ran := strings.Join(conn.ran, "|") + "|"; ran != strings.Repeat(transaction, 3) || conn.open > 1 {
 		t.Errorf("%d open, %s", conn.open, ran)
+	}
+}
+
+// newPoolOf returns a pool as openReader makes it, with these connections. No server is at its socket, in `folder`, so it can open no others.
+func newPoolOf(t *testing.T, folder string, port int, connections ...*fakeConn) *pool {
+	t.Helper()
+	reader, err := openReader(&storeSettings{Host: folder, Port: port, Database: "d", User: "u", Connections: len(connections)}, time.Second)
+	if err != nil {
+		t.Fatal(err)
+	}
+	opened := reader.(*pool)
+	for _, each := range connections {
+		<-opened.slots
+		opened.slots <- &link{Conn: each, renewals: opened.renewals.Load()}
+	}
+	return opened
+}
+
+// TestFailedStatementRenews has a statement fail on one of the two connections of a pool, as after a failover. The other one is closed before it is
+// used, and so is one of another pool for the same server. One to another server is used.
+func TestFailedStatementRenews(t *testing.T) {
+	folder, gone, other, ofList, elsewhere := t.TempDir(), &fakeConn{fault: io.ErrUnexpectedEOF}, new(fakeConn), new(fakeConn), new(fakeConn)
+	ofChains := newPoolOf(t, folder, 1, gone, other)
+	for _, each := range []*pool{ofChains, ofChains, newPoolOf(t, folder, 1, ofList), newPoolOf(t, folder, 2, elsewhere)} {
+		_, _ = each.chains(digest{})
+	}
+	if !gone.isClosed || !other.isClosed || other.ran != nil || !ofList.isClosed || ofList.ran != nil || elsewhere.isClosed || len(elsewhere.ran) != 1 {
+		t.Errorf("%+v %+v %+v %+v", gone, other, ofList, elsewhere)
+	}
+}
+
+// TestSchemaIsQuoted opens a reader of a schema whose name is a reserved word of SQL. Each statement has it in quotes, wherever it has a schema.
+func TestSchemaIsQuoted(t *testing.T) {
+	reader, err := openReader(&storeSettings{Host: t.TempDir(), Database: "d", User: "u", Schema: "user"}, time.Second)
+	if err != nil {
+		t.Fatal(err)
+	}
+	for _, text := range reader.(*pool).texts {
+		if quoted := strings.Count(text, `"user".`); quoted == 0 || strings.Count(text, "user") != quoted {
+			t.Error(text)
+		}
 	}
 }

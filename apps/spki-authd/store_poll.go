@@ -74,10 +74,14 @@ func (s *store) statusLine() (string, error) {
 	if err == nil {
 		err = s.fault
 	}
-	// (checkFresh has returned the error of this)
-	age, _ := s.polled.age(s.now())
-	return fmt.Sprintf("store: change %d, beat %d, %.1f s old, ended %d, kept %d keys in %d octets, read %d times, not read %d\n", s.polled.changes,
-		s.polled.beat, age.Seconds(), len(s.ended), s.kept.count(), s.kept.size, s.count.misses, s.count.failures), err
+	age := "not read yet"
+	if !s.polled.at.IsZero() {
+		// (checkFresh has returned the error of this)
+		sinceBeat, _ := s.polled.age(s.now())
+		age = fmt.Sprintf("%.1f s old", sinceBeat.Seconds())
+	}
+	return fmt.Sprintf("store: change %d, beat %d, %s, ended %d, kept %d keys in %d octets, read %d times, not read %d\n", s.polled.changes,
+		s.polled.beat, age, len(s.ended), s.kept.count(), s.kept.size, s.count.misses, s.count.failures), err
 }
 
 // stamp returns a text that differs between any two states of a list: the digest of a file, or `change-NUMBER-TIME` of the last change of a store, the time

@@ -16,6 +16,7 @@ import (
 	"io"
 	"net"
 	"strings"
+	"sync"
 	"sync/atomic"
 	"time"
 
@@ -30,10 +31,13 @@ type pool struct {
 	slots    chan *link
 	// The SQL of each statement, by its number: askRows to askKeep.
 	texts [asks]string
-	// How often renew was called: take closes a connection that was opened before the last call, since it may lead to a server that another one has
-	// replaced.
-	renewals atomic.Int64
+	// How often renew was called, also by other pools for the same host and port, as those of a list and of `chains`: take closes a connection that
+	// was opened before the last call, since it may lead to a server that another one has replaced.
+	renewals *atomic.Int64
 }
+
+// renewalsAt has the `renewals` of all pools: an *atomic.Int64 by the host and the port.
+var renewalsAt sync.Map
 
 // A link is a connection, its prepared statements by their numbers, which are nil until they are used, and the pool's `renewals` when it was opened.
 type link struct {
@@ -76,7 +80,8 @@ func openReader(options *storeSettings, patience time.Duration) (reader, error) 
 		return nil, err
 	}
 	connector.Dialer(dialer{patience})
-	opened := &pool{connector: connector, patience: patience, slots: make(chan *link, options.Connections)}
+	renewals, _ := renewalsAt.LoadOrStore(fmt.Sprintf("%s:%d", options.Host, options.Port), new(atomic.Int64))
+	opened := &pool{connector: connector, patience: patience, slots: make(chan *link, options.Connections), renewals: renewals.(*atomic.Int64)}
 	for count := 0; count < options.Connections; count++ {
 		opened.slots <- nil
 	}
@@ -92,8 +97,8 @@ func openReader(options *storeSettings, patience time.Duration) (reader, error) 
 		askChains: "SELECT text, (extract(epoch FROM until) * 1000000)::bigint FROM @.chains WHERE key = $1 ORDER BY until, digest",
 		askKeep:   "SELECT @.keep($1, $2, $3, $4, $5)",
 	} {
-		// (`@` is the schema, whose name was checked)
-		opened.texts[ask] = strings.ReplaceAll(text, "@", options.Schema)
+		// (`@` is the schema, whose name was checked. It is in quotes, since it may be a reserved word of SQL such as user)
+		opened.texts[ask] = strings.ReplaceAll(text, "@", pq.QuoteIdentifier(options.Schema))
 	}
 	return opened, nil
 }
@@ -123,9 +128,9 @@ func (d dialer) DialTimeout(network, address string, _ time.Duration) (net.Conn,
 	return &patient{connection, d.patience}, nil
 }
 
-// renew has take close each connection that is open now, also one that works, and open a new one in its place. pollOnce calls it when a poll has
-// failed: after a failover another server may have the address. A connection to the old one would fail a request, or, where the old one still
-// answers, read entries of another state than is polled.
+// renew has take close each connection to p's host and port that is open now, also one that works or is of another pool, and open a new one in its
+// place. pollOnce calls it when a poll has failed, and ask when a statement has: after a failover another server may have the address. A connection
+// to the old one would fail a request, or, where the old one still answers, read entries of another state than is polled.
 func (p *pool) renew() {
 	p.renewals.Add(1)
 }
@@ -157,8 +162,8 @@ func (p *pool) take() (*link, error) {
 }
 
 // ask runs the statement with a number such as askRows and these values of its parameters, and calls a function with each of its rows. The row's values are
-// valid during that call alone. It fails as take does. It also fails, and closes the connection, if the function fails, or if the server refuses the
-// statement or does not answer within p.patience.
+// valid during that call alone. It fails as take does. It also fails, closes the connection and renews the others, if the function fails, or if the
+// server refuses the statement or does not answer within p.patience.
 func (p *pool) ask(number int, use func(row []driver.Value) error, values ...driver.Value) error {
 	link, err := p.take()
 	if err != nil {
@@ -167,6 +172,8 @@ func (p *pool) ask(number int, use func(row []driver.Value) error, values ...dri
 	if err = link.ask(number, p.texts[number], use, values); err != nil {
 		link.Close()
 		link = nil
+		// (nothing polls the pool of `chains`, so without this each of its connections to a server that is gone would fail a request)
+		p.renew()
 	}
 	p.slots <- link
 	return err

@@ -254,6 +254,22 @@ func TestStaleStore(t *testing.T) {
 	}
 }
 
+// TestStatusOfStore reads the status line of a store that was not read yet, and of one whose last beat is 1.5 seconds old.
+func TestStatusOfStore(t *testing.T) {
+	s := newStored(t)
+	s.time = s.time.Add(1500 * time.Millisecond)
+	unread, err := newStore(s.store.options, s.table, s.store.open, s.store.now)
+	if err != nil {
+		t.Fatal(err)
+	}
+	if line, err := unread.statusLine(); !strings.HasPrefix(line, "store: change 0, beat 0, not read yet, ended 0, ") || !errors.Is(err, errNever) {
+		t.Errorf("%q %v", line, err)
+	}
+	if line, err := s.store.statusLine(); !strings.HasPrefix(line, "store: change 1, beat 1, 1.5 s old, ended 0, ") || err != nil {
+		t.Errorf("%q %v", line, err)
+	}
+}
+
 // TestListBesideStaleStore decides by a list in a file. Only the store knows which certificates have ended: while it is stale, a request that needs a
 // certificate gets 503, and one that needs none is granted as before.
 func TestListBesideStaleStore(t *testing.T) {

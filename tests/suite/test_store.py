@@ -127,7 +127,7 @@ class Command(OfStore):
 
     def test_wrong_arguments_change_nothing(self) -> None:
         """A text that is no entry or list, and a wrong digest, remark, file, schema or server end the command with status 2 or 3 and change nothing.
-        A server that only PGHOST names is found."""
+        A server that only PGHOST names is found, and the name of a schema may be a reserved word of SQL."""
         for text in (b"(entry (public-key (test a)))", b"(entry (public-key (test a)) (tag (*))) x", b"", b"(acl)", b"(entry (tag (*)))"):
             self.spki_store(2, "add", self.file(text))
         for text in (b"(3:acl" + ENTRY + b"(5:entry))", b"(3:acl(7:version1:1)" + ENTRY + b")"):
@@ -135,8 +135,8 @@ class Command(OfStore):
         self.spki_store(2, "end", "00")
         self.spki_store(2, "end", "00" * 32, "--remark", "\udcff")
         self.spki_store(3, "add", os.path.join(self.room, "none"))
-        self.assertEqual(commands.main(["--database", self.server.address, "--schema", 'a"; DROP TABLE x', "log"]), 2)
-        self.assertEqual(commands.main(["--database", self.server.address, "--schema", "none", "log"]), 2)
+        for schema, command, status in (('a"; DROP TABLE x', "log", 2), ("none", "log", 2), ("user", "init", 0), ("user", "log", 0)):
+            self.spki_store(status, "--schema", schema, command)
         self.assertEqual(commands.main(["--database", "host=/none", "log"]), 3)
         with mock.patch.dict(os.environ, PGHOST=self.server.folder):
             self.assertEqual(commands.main(["--database", "user=postgres dbname=postgres", "--schema", self.schema, "log"]), 0)
@@ -391,7 +391,7 @@ class WithDriver(OfDaemon):
 
     def test_answers_while_the_store_changes(self) -> None:
         """Generated questions are asked while another client changes the store. Each answer is that of the guard of the whole list."""
-        output = self.go("test", *WITH_DRIVER, "-count=1", "-run", "TestQuestionsToStore|TestTransact", "-v", ".", SPKI_STORE_HOST=self.server.folder,
+        output = self.go("test", *WITH_DRIVER, "-count=1", "-run", "ToStore|Transact|Renews|Quoted", "-v", ".", SPKI_STORE_HOST=self.server.folder,
                          SPKI_STORE_SEED=str(secrets.randbelow(1 << 32)), SPKI_STORE_SCHEMA=self.schema, SPKI_STORE_QUESTIONS=str(QUESTIONS))
         self.assertIn("--- PASS: TestQuestionsToStore", output)
 

@@ -1,4 +1,4 @@
--- A store of access-list entries. `spki-store init` runs this once, in one transaction, with the name of the schema in place of @SCHEMA@.
+-- A store of access-list entries. `spki-store init` runs this once, in one transaction, with the name of the schema, in quotes, in place of @SCHEMA@.
 -- The roles @SCHEMA@_reader, @SCHEMA@_writer, @SCHEMA@_adder and @SCHEMA@_keeper cannot log in: grant them to accounts.
 CREATE SCHEMA @SCHEMA@;
 

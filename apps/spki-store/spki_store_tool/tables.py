@@ -22,8 +22,8 @@ from psycopg.pq.abc import PGconn
 from .texts import Wrong
 
 SCHEMA = os.path.join(os.path.dirname(os.path.abspath(__file__)), "schema.sql")
-# The name of a schema, which schema.sql has without quotes, and with `_` and the word of a role as the name of the role. `schemaName` of spki-authd
-# is the same.
+# The name of a schema. schema.sql has it in quotes, since it may be a reserved word of SQL, and without quotes in the name of a role, with `_` and
+# the word of the role behind it. `schemaName` of spki-authd is the same.
 NAME = re.compile(r"[a-z_][a-z0-9_]{0,40}\Z")
 # The version of schema.sql.
 VERSION = 2
@@ -123,7 +123,7 @@ class Store:
     def make(self) -> None:
         """Makes the schema, which must not be there yet, and those of its roles that are not there."""
         with open(SCHEMA, encoding="utf-8") as file:
-            text = file.read().replace("@SCHEMA@", self.schema)
+            text = file.read().replace("@SCHEMA@_", f"{self.schema}_").replace("@SCHEMA@", f'"{self.schema}"')
         with self.connection.transaction():
             for role in ROLES:
                 name = f"{self.schema}_{role}"
