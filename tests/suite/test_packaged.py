@@ -295,19 +295,27 @@ class Scripts(unittest.TestCase):
             self.assertEqual((status, "set SOURCE_DATE_EPOCH" in output), (2, True), output)
             self.assertFalse(os.path.exists(os.path.join(room, "made")))
 
-    def test_installing_the_daemon(self) -> None:
-        """The script of the package makes the user, opens the configuration's folder to root and this user, and starts nothing. The programs by
-        which it would change the system are replaced by ones that print their names and arguments."""
-        with tempfile.TemporaryDirectory() as room:
-            for name in ("adduser", "chown", "chmod", "systemctl", "deb-systemd-invoke", "runuser"):
-                with open(os.path.join(room, name), "w", encoding="ascii") as file:
-                    file.write(f'#!/bin/sh\necho {name} "$@"\n')
-                os.chmod(file.name, 0o755)
-            settings = {**os.environ, "PATH": f"{room}:{os.environ['PATH']}"}
-            status, output = output_of("sh", os.path.join(TOP, "packaging", "spki-authd.postinst"), "configure", "", env=settings)
+    def output_of_script(self, name: str, *words: str) -> str:
+        """Runs a script of the daemon's package, on the folders /etc and /run of `self.room`. It must succeed. The programs by which it would change
+        the system are replaced by ones that print their names and arguments. Returns what it writes, without the path of that folder."""
+        text = re.sub("/(?=etc/|run/)", f"{self.room}/", text_of(f"packaging/spki-authd.{name}"))
+        status, output = output_of("sh", "-s", *words, text=text, env={**os.environ, "PATH": f"{self.room}:{os.environ['PATH']}"})
         self.assertEqual(status, 0, output)
+        return output.replace(self.room, "")
+
+    def test_scripts_of_the_daemon(self) -> None:
+        """The first installation makes the user, opens the configuration's folder to root and this user, and starts nothing. A later one restarts the
+        daemon if the packaged program, and no other one of its name, accepts the configuration."""
+        self.room = room_for(self)
+        for name in ("adduser", "chown", "chmod", "systemctl", "deb-systemd-invoke", "runuser"):
+            pathlib.Path(self.room, name).write_text(f'#!/bin/sh\necho {name} "$@" >&2\n', encoding="ascii")
+            os.chmod(os.path.join(self.room, name), 0o755)
+        for folder in ("run/systemd/system", "etc/spki-authd/config.json"):
+            os.makedirs(os.path.join(self.room, folder))
+        output = self.output_of_script("postinst", "configure", "")
         self.assertRegex(output, "adduser .*--system --group .* spki-authd\nchown root:spki-authd /etc/spki-authd\nchmod 750 /etc/spki-authd\n")
         self.assertEqual(re.findall(r"^(?:systemctl|deb-systemd-invoke) .*(?:start|enable).*", output, re.MULTILINE), [])
+        self.assertIn("runuser -u spki-authd -- /usr/bin/spki-authd -test\ndeb-systemd-invoke restart", self.output_of_script("postinst", "configure", "0"))
 
     @needs.needs("man")
     def test_manual_of_the_daemon(self) -> None:
