@@ -305,7 +305,7 @@ class Scripts(unittest.TestCase):
 
     def test_scripts_of_the_daemon(self) -> None:
         """The first installation makes the user, opens the configuration's folder to root and this user, and starts nothing. A later one restarts the
-        daemon if the packaged program, and no other one of its name, accepts the configuration."""
+        daemon if the packaged program, and no other one of its name, accepts the configuration. A purge ends that the units start with the system."""
         self.room = room_for(self)
         for name in ("adduser", "chown", "chmod", "systemctl", "deb-systemd-invoke", "runuser"):
             pathlib.Path(self.room, name).write_text(f'#!/bin/sh\necho {name} "$@" >&2\n', encoding="ascii")
@@ -315,7 +315,14 @@ class Scripts(unittest.TestCase):
         output = self.output_of_script("postinst", "configure", "")
         self.assertRegex(output, "adduser .*--system --group .* spki-authd\nchown root:spki-authd /etc/spki-authd\nchmod 750 /etc/spki-authd\n")
         self.assertEqual(re.findall(r"^(?:systemctl|deb-systemd-invoke) .*(?:start|enable).*", output, re.MULTILINE), [])
-        self.assertIn("runuser -u spki-authd -- /usr/bin/spki-authd -test\ndeb-systemd-invoke restart", self.output_of_script("postinst", "configure", "0"))
+        output = self.output_of_script("postinst", "configure", "0.1.0")
+        self.assertIn("\nrunuser -u spki-authd -- /usr/bin/spki-authd -test\ndeb-systemd-invoke restart spki-authd.service\n", output)
+        for link in ("multi-user.target.wants/spki-authd.service", "sockets.target.wants/spki-authd.socket"):
+            path = os.path.join(self.room, "etc", "systemd", "system", link)
+            os.makedirs(os.path.dirname(path))
+            os.symlink("/lib/systemd/system/of-a-removed-package", path)
+            self.output_of_script("postrm", "purge")
+            self.assertFalse(os.path.islink(path), path)
 
     @needs.needs("man")
     def test_manual_of_the_daemon(self) -> None:
