@@ -7,6 +7,7 @@ import json
 import os
 import pathlib
 import re
+import runpy
 import shutil
 import subprocess
 import sys
@@ -294,6 +295,12 @@ class Scripts(unittest.TestCase):
             status, output = make_packages(copy_sources(room), "--maintainer", MAINTAINER, os.path.join(room, "made"))
             self.assertEqual((status, "set SOURCE_DATE_EPOCH" in output), (2, True), output)
             self.assertFalse(os.path.exists(os.path.join(room, "made")))
+
+    def test_modules_in_spdx(self) -> None:
+        """The list in SPDX has the modules that the build information of a program in Go names, but those of this repository."""
+        describe = runpy.run_path(os.path.join(TOP, "packaging", "describe.py"))
+        linked = describe["linked_into"]([b"\ndep\tconguraki/spki\tv0.2.0\n=>\t../go\t(devel)\t\ndep\tgithub.com/lib/pq\tv1.10.7\n"])
+        self.assertEqual({describe["foreign_package"](*other)["SPDXID"] for other in linked}, {"SPDXRef-github.com-lib-pq-v1.10.7"})
 
     def output_of_script(self, name: str, *words: str) -> str:
         """Runs a script of the daemon's package, on the folders /etc and /run of `self.room`. It must succeed. The programs by which it would change
