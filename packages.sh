@@ -161,6 +161,8 @@ package_daemon() {
     for page in apps/spki-authd/{,servers/}*.md docs/OPERATING.md examples/{nginx,caddy,haproxy,apache}/*; do
         [[ ! -e $page || $page == *.sh || $page == */loopback.conf ]] || put 644 "$page" spki-authd "usr/share/doc/spki-authd/$(place_in_doc "$page")"
     done
+    # (the command of the README that builds a daemon keeps its path)
+    sed -i 's|/usr/local/bin/spki-authd -|/usr/bin/spki-authd -|' "$room/spki-authd/usr/share/doc/spki-authd"/*.md
     put 644 docs/spki-authd.8 spki-authd usr/share/man/man8/spki-authd.8
     install -d "$room/spki-authd/etc/spki-authd"
     for script in postinst prerm postrm; do

@@ -127,10 +127,11 @@ class Packages(built.OfLibrary):
         self.assertEqual(run(self.inside("spki", "usr", "bin", "spki"), "check", case), (0, b"yes entry 1\n"))
 
     def test_version_and_paths_of_daemon(self) -> None:
-        """The daemon has the version, and no path of the folder in which it was built."""
+        """The daemon has the version, and no path of the folder in which it was built. The page beside it has logrotate run this program."""
         program = self.inside("spki-authd", "usr", "bin", "spki-authd")
         self.assertEqual(output_of(program, "-version"), (0, f"spki-authd {VERSION}\n"))
         self.assertNotIn(TOP.encode(), pathlib.Path(program).read_bytes())
+        self.assertIn(" /usr/bin/spki-authd -reopen\n", text_of(self.inside("spki-authd", "usr/share/doc/spki-authd/README.md")))
 
     def test_stripped(self) -> None:
         """Nothing is left that is for debuggers. The words that name the logic of the proofs are left: in the daemon, those of the library in it."""
