@@ -24,6 +24,8 @@ FENCED = re.compile(r"^```(\w*) ?(\S*)\n(.*?)^```$", re.MULTILINE | re.DOTALL)
 HEADING = re.compile(r"^#+ (.*)$", re.MULTILINE)
 PATH = re.compile(r"^(?:\.ci|[\w*+-][\w.*+-]*)(?:/[\w.*+-]+)*/?$")
 KINDS = (".md", ".py", ".sexp", ".csexp", ".tsexp", ".rt", ".antt", ".h", ".c", ".sh", ".svg")
+# A link to a file, and in how many lines it does something: behind the link, or before it as the link's text.
+COUNTED = re.compile(r"\]\(([^)\s]+)\)[^][().]* in (\d+)(?:\slines|\.)|\[(\d+)(?: lines)? in \w+\]\(([^)\s]+)\)")
 LOGIC = re.compile(r"rattle-kit-\w+ (logic [0-9a-f]+)")
 PLACEHOLDER = re.compile(r"\b[A-Z]{2,}(?![A-Za-z.])")
 # What pages name that is made by a command, by the reader, or by another program.
@@ -159,9 +161,11 @@ class Documents(unittest.TestCase):
         self.assertEqual(list(claims.unclaimed("docs/PROOFS.md", "crates/spki_c/spki.h", "crates/spki_c/spki.c")), [])
 
     def check_page(self, page: str) -> None:
-        """All that a page names must be there."""
+        """All that a page names must be there, and each file have as many lines as the page says."""
+        counts = [(file + other, number + of_other) for file, number, of_other, other in COUNTED.findall(text_of(page))]
+        wrong = [pair for pair in counts if text_of(os.path.join(os.path.dirname(page), pair[0])).count("\n") != int(pair[1])]
         missing = sorted({*dead_links(page), *dead_paths(page, NAMES)})
-        self.assertEqual(missing, [], f"{page}: these are not there")
+        self.assertEqual((missing, wrong), ([], []), f"{page}: these are not there, or have another number of lines")
 
 
 def page_test(page: str) -> Callable[[Documents], None]:
