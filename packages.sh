@@ -188,6 +188,8 @@ for name in spki spki-cert; do
     mv "$room/all/usr/share/man/man1/$name.1" "$room/$name/usr/share/man/man1"
 done
 mv "$room/all/usr/share/spki-cert" "$room/spki-cert/usr/share"
+# (the installed command looks into the folder of this architecture's libraries, and the package is for all)
+put 755 apps/spki-cert/spki-cert spki-cert usr/bin/spki-cert
 strip_file "" --strip-all "$room/spki/usr/bin/spki"
 depends=$(libc_of "$room/spki/usr/bin/spki")
 package spki "$architecture" utils "Depends: $depends" "decide requests by access lists and certificates (SPKI)" \

@@ -828,16 +828,18 @@ int main(int count, char **words)
         self.assertEqual(status, 0, output)
 
     def test_install_sh_installs_and_uninstalls(self):
-        """install.sh takes a built program, a static library and the shared one beside it: empty files here. --uninstall leaves no file under the
-        prefix, the folder of the installation. Nothing is made beside the prefix."""
+        """install.sh takes a built program, a static library and the shared one beside it: empty files here. The command loads the library that is
+        installed. --uninstall leaves no file under the prefix, the folder of the installation. Nothing is made beside the prefix."""
         for name in ("prog", "lib.a", "lib.so"):
             self.write(name, "")
-        before = set(os.listdir(self.room))
-        script = os.path.join(TOP, "install.sh")
-        run_checked(script, self.at("prefix"), self.at("prog"), self.at("lib.a"))
+        before, settings = set(os.listdir(self.room)), {name: value for name, value in os.environ.items() if name != "SPKI_LIBRARY"}
+        script, settings["LIBDIR"] = os.path.join(TOP, "install.sh"), "lib/of-a-machine"
+        run_checked(script, self.at("prefix"), self.at("prog"), self.at("lib.a"), env=settings)
         status, output = output_of(sys.executable, self.at("prefix/bin/spki-cert"), "--version")
         self.assertEqual((status, output), (0, f"spki-cert {version()}\n"))
-        run_checked(script, "--uninstall", self.at("prefix"))
+        words = (sys.executable, self.at("prefix/bin/spki-cert"), "ask", "--case", os.path.join(TOP, "examples", "delegation.sexp"))
+        self.assertIn("lib/of-a-machine/libspki_c.so: file too short", output_of(*words, env=settings)[1])
+        run_checked(script, "--uninstall", self.at("prefix"), env=settings)
         left = [name for _, _, names in os.walk(self.at("prefix")) for name in names]
         self.assertEqual((left, before), ([], set(os.listdir(self.room)) - {"prefix"}))
 

@@ -167,7 +167,9 @@ class Packages(built.OfLibrary):
                 self.assertEqual([path for line in lines for path in line if not os.path.exists(path)], [])
 
     def test_module_loads_its_library(self) -> None:
-        """The module of spki-cert loads the library of its own version, also if `libspki_c.so` is beside it: here a file that is no library."""
+        """The module of spki-cert loads the library of its own version, also if `libspki_c.so` is beside it: here a file that is no library. The
+        command names no other, since its package is for each architecture."""
+        self.assertEqual(text_of(self.inside("spki-cert", "usr", "bin", "spki-cert")), text_of("apps/spki-cert/spki-cert"))
         folder = self.root_with(SHARED)
         shutil.copy(self.inside(SHARED, "DEBIAN", "control"), os.path.join(folder, PLACE, "libspki_c.so"))
         settings = {name: value for name, value in os.environ.items() if name != "SPKI_LIBRARY"}
