@@ -266,8 +266,7 @@ class Started(OfDaemon):
     """The daemon under a service manager; its queue where /proc/sys is hidden, as by its unit; and the group of its socket."""
 
     def test_what_the_manager_is_told(self) -> None:
-        """Messages come at a reload, at one that is refused since the list has a fault, and at the end. The daemon does not remove the manager's
-        socket."""
+        """Messages come at a reload, at one that is refused for a fault of the list, and at the end. The daemon leaves the manager's socket."""
         with managed(self.daemon_program, self.access_list) as manager:
             process = manager.start()
             try:
@@ -501,8 +500,8 @@ class Units(unittest.TestCase):
 
     @needs.needs("systemd-analyze")
     def test_systemd_accepts_the_units(self) -> None:
-        """systemd accepts both files, which name /bin/true here in place of the daemon, with the lines that the page of spki-store adds to the service.
-        By systemd's rating, from 0 to 100, the service may do little beyond its work: 6 at most, and with these lines it has a network."""
+        """systemd accepts both files, which name /bin/true here in place of the daemon, with the lines of spki-store's page, by which the service has
+        a network. Without them it rates what the service may do beyond its work at 6 or less, from 0 to 100."""
         lines = text_of("apps/spki-store/README.md").partition("    [Service]\n")[2].partition("\n\n")[0]
         with tempfile.TemporaryDirectory() as room:
             names = [os.path.join(room, os.path.basename(path)) for path in UNITS]
@@ -516,8 +515,7 @@ class Units(unittest.TestCase):
             self.assertRegex(output_of(*words)[1], r"(?s)Service may allocate Internet sockets.*Service has access to the host's network")
 
     def test_lines_that_the_units_must_have(self) -> None:
-        """Without some of these lines somebody would have to start the service by hand after failed starts, a reload could not fail, and the runtime
-        folder would be removed with the socket in it."""
+        """Without some of these lines a failed start would be the last, a reload could not fail, and the folder of the socket would be removed."""
         service, unit = (text_of(path).splitlines() for path in UNITS)
         for line in ("StartLimitIntervalSec=0", "Type=notify", "ExecReload=/usr/local/bin/spki-authd -reload -config /etc/spki-authd/config.json",
                      "RuntimeDirectoryPreserve=yes", "LogRateLimitIntervalSec=30s", "LogRateLimitBurst=30000", "Requires=spki-authd.socket"):

@@ -203,8 +203,8 @@ class OnMachines(built.OfLibrary):
             self.check_statuses(machine, by_root, by_user)
 
     def check_statuses(self, machine: Machine, by_root: list[str], by_user: list[list[str]]) -> None:
-        """Commands of root, in one shell, then blocks of the user's, must end with status 0 or that of STATUSES. `Machine.blocks` says where each
-        block begins. In the output the page's name divides the two."""
+        """Commands of root, in one shell, then blocks of the user's, where `Machine.blocks` says, must end with status 0 or that of STATUSES. In the
+        output the page's name divides the two."""
         begin = "" if machine.blocks == "on" else "cd ~/clone\n"
         script = "cd ~/clone\n" + "".join(begin + script_of(lines) for lines in by_user)
         output = self.output(machine, f"echo '{END}' 0\n" + script_of(by_root), script)
@@ -230,8 +230,7 @@ class OfToolchain(unittest.TestCase):
     """What the toolchain does that a page begins with."""
 
     def first_command(self) -> None:
-        """The first command of README compiles the program, which takes more than a minute, and prints the answer that the page says. It becomes
-        `test_first_command` in the long tests alone."""
+        """The first command of README compiles the program, in over a minute, and prints the answer that the page says. It is a long test."""
         line = next(command.line for command in page_commands.commands_of("README.md") if command.kind == "indented")
         status, output = output_of("sh", "-c", line, cwd=TOP, seconds=3 * SECONDS)
         self.assertEqual((status, "yes entry 1" in output.splitlines()), (0, True), output)

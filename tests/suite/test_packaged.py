@@ -167,8 +167,7 @@ class Packages(built.OfLibrary):
                 self.assertEqual([path for line in lines for path in line if not os.path.exists(path)], [])
 
     def test_module_loads_its_library(self) -> None:
-        """The module of spki-cert loads the library of its own version, also if `libspki_c.so` is beside it: here a file that is no library. The
-        command names no other, since its package is for each architecture."""
+        """The module of spki-cert loads the library of its version, also if a `libspki_c.so` that is none is beside it. The command names none."""
         self.assertEqual(text_of(self.inside("spki-cert", "usr", "bin", "spki-cert")), text_of("apps/spki-cert/spki-cert"))
         folder = self.root_with(SHARED)
         shutil.copy(self.inside(SHARED, "DEBIAN", "control"), os.path.join(folder, PLACE, "libspki_c.so"))
@@ -305,34 +304,27 @@ class Scripts(unittest.TestCase):
         linked = describe["linked_into"]([b"\ndep\tconguraki/spki\tv0.2.0\n=>\t../go\t(devel)\t\ndep\tgithub.com/lib/pq\tv1.10.7\n"])
         self.assertEqual({describe["foreign_package"](*other)["SPDXID"] for other in linked}, {"SPDXRef-github.com-lib-pq-v1.10.7"})
 
-    def output_of_script(self, name: str, *words: str) -> str:
-        """Runs a script of the daemon's package, on the folders /etc and /run of `self.room`. It must succeed. The programs by which it would change
-        the system are replaced by ones that print their names and arguments. Returns what it writes, without the path of that folder."""
-        text = re.sub("/(?=etc/|run/)", f"{self.room}/", text_of(f"packaging/spki-authd.{name}"))
-        status, output = output_of("sh", "-s", *words, text=text, env={**os.environ, "PATH": f"{self.room}:{os.environ['PATH']}"})
-        self.assertEqual(status, 0, output)
-        return output.replace(self.room, "")
-
     def test_scripts_of_the_daemon(self) -> None:
-        """The first installation makes the user, opens the configuration's folder to root and this user, and starts nothing. A later one restarts the
-        daemon if the packaged program, and no other one of its name, accepts the configuration. A purge ends that the units start with the system."""
-        self.room = room_for(self)
+        """A first installation makes the user, opens the configuration's folder to root and this user, and starts nothing. A later one restarts the
+        daemon if the packaged program accepts the configuration. A purge removes the links to units that are gone. The scripts run on a folder of
+        their own, with programs that print their names and arguments in place of those by which they would change the system."""
+        room, outputs, units = room_for(self), [], "etc/systemd/system"
         for name in ("adduser", "chown", "chmod", "systemctl", "deb-systemd-invoke", "runuser"):
-            pathlib.Path(self.room, name).write_text(f'#!/bin/sh\necho {name} "$@" >&2\n', encoding="ascii")
-            os.chmod(os.path.join(self.room, name), 0o755)
-        for folder in ("run/systemd/system", "etc/spki-authd/config.json"):
-            os.makedirs(os.path.join(self.room, folder))
-        output = self.output_of_script("postinst", "configure", "")
-        self.assertRegex(output, "adduser .*--system --group .* spki-authd\nchown root:spki-authd /etc/spki-authd\nchmod 750 /etc/spki-authd\n")
-        self.assertEqual(re.findall(r"^(?:systemctl|deb-systemd-invoke) .*(?:start|enable).*", output, re.MULTILINE), [])
-        output = self.output_of_script("postinst", "configure", "0.1.0")
-        self.assertIn("\nrunuser -u spki-authd -- /usr/bin/spki-authd -test\ndeb-systemd-invoke restart spki-authd.service\n", output)
+            pathlib.Path(room, name).write_text(f'#!/bin/sh\necho {name} "$@" >&2\n', encoding="ascii")
+            os.chmod(os.path.join(room, name), 0o755)
+        for path in ("run/systemd/system", "etc/spki-authd/config.json", f"{units}/multi-user.target.wants", f"{units}/sockets.target.wants"):
+            os.makedirs(os.path.join(room, path))
         for link in ("multi-user.target.wants/spki-authd.service", "sockets.target.wants/spki-authd.socket"):
-            path = os.path.join(self.room, "etc", "systemd", "system", link)
-            os.makedirs(os.path.dirname(path))
-            os.symlink("/lib/systemd/system/of-a-removed-package", path)
-            self.output_of_script("postrm", "purge")
-            self.assertFalse(os.path.islink(path), path)
+            os.symlink("nothing", os.path.join(room, units, link))
+        for script, word, version in (("postinst", "configure", ""), ("postinst", "configure", "0.1.0"), ("postrm", "purge", "")):
+            text = re.sub("/(?=etc/|run/)", f"{room}/", text_of(f"packaging/spki-authd.{script}"))
+            status, output = output_of("sh", "-s", word, version, text=text, env={**os.environ, "PATH": f"{room}:{os.environ['PATH']}"})
+            self.assertEqual(status, 0, output)
+            outputs.append(output.replace(room, ""))
+        self.assertRegex(outputs[0], "adduser .*--system --group .* spki-authd\nchown root:spki-authd /etc/spki-authd\nchmod 750 /etc/spki-authd\n")
+        self.assertEqual(re.findall(r"^(?:systemctl|deb-systemd-invoke) .*(?:start|enable).*", outputs[0], re.MULTILINE), [])
+        self.assertIn("\nrunuser -u spki-authd -- /usr/bin/spki-authd -test\ndeb-systemd-invoke restart spki-authd.service\n", outputs[1])
+        self.assertEqual([*pathlib.Path(room, units).glob("*/*")], [])
 
     @needs.needs("man")
     def test_manual_of_the_daemon(self) -> None:
