@@ -137,7 +137,8 @@ END
 ) "$cmake/spki-config-version.cmake"
 put 644 docs/spki.1 share/man/man1/spki.1
 put 644 docs/spki-cert.1 share/man/man1/spki-cert.1
-put 755 apps/spki-cert/spki-cert bin/spki-cert
+# (the command looks for the library in lib, unless LIBDIR says otherwise)
+put 755 <(sed "s|\"lib\" if IS_INSTALLED|\"$libraries\" if IS_INSTALLED|" apps/spki-cert/spki-cert) bin/spki-cert
 for module in "${modules[@]}"; do
     put 644 "$module" "$(module_place "$module")"
 done

@@ -161,6 +161,8 @@ package_daemon() {
     for page in apps/spki-authd/{,servers/}*.md docs/OPERATING.md examples/{nginx,caddy,haproxy,apache}/*; do
         [[ ! -e $page || $page == *.sh || $page == */loopback.conf ]] || put 644 "$page" spki-authd "usr/share/doc/spki-authd/$(place_in_doc "$page")"
     done
+    # (the command of the README that builds a daemon keeps its path)
+    sed -i 's|/usr/local/bin/spki-authd -|/usr/bin/spki-authd -|' "$room/spki-authd/usr/share/doc/spki-authd"/*.md
     put 644 docs/spki-authd.8 spki-authd usr/share/man/man8/spki-authd.8
     install -d "$room/spki-authd/etc/spki-authd"
     for script in postinst prerm postrm; do
@@ -186,6 +188,8 @@ for name in spki spki-cert; do
     mv "$room/all/usr/share/man/man1/$name.1" "$room/$name/usr/share/man/man1"
 done
 mv "$room/all/usr/share/spki-cert" "$room/spki-cert/usr/share"
+# (the installed command looks into the folder of this architecture's libraries, and the package is for all)
+put 755 apps/spki-cert/spki-cert spki-cert usr/bin/spki-cert
 strip_file "" --strip-all "$room/spki/usr/bin/spki"
 depends=$(libc_of "$room/spki/usr/bin/spki")
 package spki "$architecture" utils "Depends: $depends" "decide requests by access lists and certificates (SPKI)" \

@@ -27,6 +27,8 @@ DATE = re.compile(r"\d{4}-\d\d-\d\d")
 WIDTH = 78
 # What a program or a library says of itself: the logic by which the toolchain has proved it, and the version of Go whose libraries it has.
 LINKED = {"rattle-logic": re.compile(rb"rattle logic=([0-9a-f]{64})"), "go": re.compile(rb"\xff Go buildinf:.{19}go([\d.]+)", re.DOTALL)}
+# A module in the build information of a program in Go, but those of this repository: its path and its version.
+MODULE = re.compile(rb"\ndep\t((?!conguraki/)[^\t\n]+)\t([^\t\n]+)")
 # An object of SPDX, as JSON has it.
 Row = dict[str, object]
 
@@ -124,14 +126,18 @@ def relationship(element: object, kind: str, other: object) -> Row:
 
 
 def linked_into(contents_of_files: list[bytes]) -> set[tuple[str, str]]:
-    """The names and versions, by LINKED, of the logic that has proved programs and libraries of a package, and of what is linked into them. All files
-    are searched: only programs and libraries say so."""
-    return {(name, version.decode()) for octets in contents_of_files for name, pattern in LINKED.items() for version in pattern.findall(octets)}
+    """The names and versions, by LINKED and MODULE, of the logic that has proved programs and libraries of a package, and of what is linked into
+    them. All files are searched: only programs and libraries say so."""
+    named = {(name, version) for octets in contents_of_files for name, pattern in LINKED.items() for version in pattern.findall(octets)}
+    named |= {(path.decode(), version) for octets in contents_of_files for path, version in MODULE.findall(octets)}
+    return {(name, version.decode()) for name, version in named}
 
 
 def foreign_package(name: str, version: str) -> Row:
     """What is not of this repository and is linked into packages, as SPDX has it."""
-    return {"SPDXID": f"SPDXRef-{name}-{version}", "name": name, "versionInfo": version, "supplier": "NOASSERTION", "downloadLocation": "NOASSERTION",
+    # (an SPDXID has no other characters)
+    reference = re.sub("[^A-Za-z0-9.-]", "-", f"SPDXRef-{name}-{version}")
+    return {"SPDXID": reference, "name": name, "versionInfo": version, "supplier": "NOASSERTION", "downloadLocation": "NOASSERTION",
             "filesAnalyzed": False, "licenseConcluded": "NOASSERTION", "licenseDeclared": "NOASSERTION", "copyrightText": "NOASSERTION"}
 
 

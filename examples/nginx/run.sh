@@ -74,6 +74,6 @@ asks eve GET /web/new.txt -H "$(shows to-ben)"
 if [ "${1:-}" = stay ]; then
     echo "# nginx is at https://localhost:$PORT until you press Ctrl-C. The logs are in $room/log."
     echo '# To do what docs/OPERATING.md says, enter this in another shell:'
-    echo "cd $room; PORT=$PORT EXAMPLE=$here PATH=$top/apps/spki-cert:$(dirname "$SPKI_AUTHD"):\$PATH"
+    echo "cd '$room'; PORT=$PORT EXAMPLE='$here' PATH='$top/apps/spki-cert:$(dirname "$SPKI_AUTHD")':\$PATH"
     wait
 fi

@@ -76,8 +76,8 @@ NOT_RUN = [
     ("*", r"examples/nginx/run\.sh( stay)?", "tests/suite/test_nginx.py runs it, and tests/suite/test_operating.py the page in its folder"),
     ("*", r"examples/signed/run\.py( .*)?|examples/database/story\.py .*", "tests/suite/test_examples.py runs them"),
     ("*", r"(sudo )?(systemctl|useradd|usermod|runuser|install -d|ldconfig|chown|cp \S+ /etc/\S+) .*", "a server's services, users and owners"),
-    ("apps/spki-authd/*", r"cd apps/spki-authd && go build .*", "tests/suite/test_go.py builds the daemon"),
-    ("apps/spki-store/*", r"(cd apps/spki-authd && )?go build .*|go mod edit .*|createdb .*|spki-store .*|pg_ctl promote|python3 -c .*",
+    ("apps/spki-authd/*", r"\(cd apps/spki-authd && go build .*", "tests/suite/test_go.py builds the daemon"),
+    ("apps/spki-store/*", r"\(cd apps/spki-authd && go build .*|ln -s .*|go mod edit .*|createdb .*|spki-store .*|pg_ctl promote|python3 -c .*",
      "tests/suite/test_store.py builds the daemon, runs the commands on servers and tables of its own, and promotes a replica")]
 
 

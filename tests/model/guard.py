@@ -29,8 +29,7 @@ GIVEN = Rows("question to a guard, given", [
 SIGNED = Rows("question to a guard, signatures that are listed", ["none", "of each certificate", "up to one that does not stand"])
 DECIDED = Rows("question to a guard, decided", ["yes where check is TooLarge", "no where check is TooLarge", "as check"])
 STATUSES = Rows("question to a guard, status", [f"{wish}: {status}" for wish in WISHES for status in (0, 1, 2)])
-# what is misuse when a guard is opened, when a question is opened, when a signature is asked for, when a question is answered, when a signature
-# is marked
+# what is misuse when a guard is opened, a question is opened, a signature is asked for, a question is answered, a signature is marked
 OPENED = ("no policy has this number", "a limit of octets above the highest", "a limit of nodes above the highest",
           "a limit of work above the highest", "no place for the guard", "a list that is null with a length", "limits of another size")
 ASKED = ("no guard", "no question", "a part that is null with a length", "a part of a length over 2^63 - 1", "strings that are null with a count",

@@ -4,8 +4,7 @@ from rows.chains import cert, entry, key, signed
 
 NO_END = 2**63 - 1  # (the greatest number of 64 bits: what the library says where no window ends)
 GROUP = f"(name {key('a')} friends)"
-# Of each row: its name; the limits of the entry, of a certificate by a and of a definition of a's name, each a date or none; the moment; and
-# the last second.
+# Of each row: its name; the limits of the entry, of a certificate by a and of a definition of a's name, each a date or none; the moment; the end.
 ROWS = [
     ("nothing ends", "", "", "", "2024-01-01_00:00:00", NO_END),
     ("the entry", "2024-06-30_12:00:00", "", "", "2024-01-01_00:00:00", 1719748800),

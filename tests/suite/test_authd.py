@@ -266,8 +266,7 @@ class Started(OfDaemon):
     """The daemon under a service manager; its queue where /proc/sys is hidden, as by its unit; and the group of its socket."""
 
     def test_what_the_manager_is_told(self) -> None:
-        """Messages come at a reload, at one that is refused since the list has a fault, and at the end. The daemon does not remove the manager's
-        socket."""
+        """Messages come at a reload, at one that is refused for a fault of the list, and at the end. The daemon leaves the manager's socket."""
         with managed(self.daemon_program, self.access_list) as manager:
             process = manager.start()
             try:
@@ -501,22 +500,22 @@ class Units(unittest.TestCase):
 
     @needs.needs("systemd-analyze")
     def test_systemd_accepts_the_units(self) -> None:
-        """systemd accepts both files. They name /bin/true here in the place of the daemon, which need not be installed."""
+        """systemd accepts both files, which name /bin/true here in place of the daemon, with the lines of spki-store's page, by which the service has
+        a network. Without them it rates what the service may do beyond its work at 6 or less, from 0 to 100."""
+        lines = text_of("apps/spki-store/README.md").partition("    [Service]\n")[2].partition("\n\n")[0]
         with tempfile.TemporaryDirectory() as room:
-            for path in UNITS:
-                Daemon.write(os.path.join(room, os.path.basename(path)), text_of(path).replace("/usr/local/bin/spki-authd", "/bin/true"))
             names = [os.path.join(room, os.path.basename(path)) for path in UNITS]
+            for name, path in zip(names, UNITS):
+                Daemon.write(name, text_of(path).replace("/usr/local/bin/spki-authd", "/bin/true"))
+            words = ("systemd-analyze", "security", "--offline=yes", "--threshold=6", names[0])
+            self.assertEqual(output_of(*words)[0], 0)
+            os.mkdir(f"{names[0]}.d")
+            Daemon.write(f"{names[0]}.d/override.conf", f"[Service]\n{lines}\n")
             self.assertEqual(output_of("systemd-analyze", "verify", *names), (0, ""))
-
-    @needs.needs("systemd-analyze")
-    def test_systemd_rates_the_exposure_as_low(self) -> None:
-        """systemd rates what the service may do beyond its work at 6 or less, from 0 to 100."""
-        status, output = output_of("systemd-analyze", "security", "--offline=yes", "--threshold=6", UNITS[0])
-        self.assertEqual(status, 0, output[-300:])
+            self.assertRegex(output_of(*words)[1], r"(?s)Service may allocate Internet sockets.*Service has access to the host's network")
 
     def test_lines_that_the_units_must_have(self) -> None:
-        """The units have the lines that prevent faults. Without some of them somebody would have to start the service by hand after failed starts, a
-        reload could not fail, and the runtime folder would be removed with the socket in it."""
+        """Without some of these lines a failed start would be the last, a reload could not fail, and the folder of the socket would be removed."""
         service, unit = (text_of(path).splitlines() for path in UNITS)
         for line in ("StartLimitIntervalSec=0", "Type=notify", "ExecReload=/usr/local/bin/spki-authd -reload -config /etc/spki-authd/config.json",
                      "RuntimeDirectoryPreserve=yes", "LogRateLimitIntervalSec=30s", "LogRateLimitBurst=30000", "Requires=spki-authd.socket"):

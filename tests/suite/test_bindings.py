@@ -94,8 +94,7 @@ def words_of(request):
 
 
 def seconds_of(moment):
-    """The seconds since 1970 of a moment, such as b"2024-01-01_00:00:00". None if it is earlier, if no calendar has it, if its second is 60, or if it
-    is no date."""
+    """The seconds since 1970 of a moment, such as b"2024-01-01_00:00:00". None if it is earlier, is no date, is in no calendar, or has second 60."""
     try:
         date = datetime.strptime(moment.decode(), "%Y-%m-%d_%H:%M:%S")
         seconds = int(date.replace(tzinfo=timezone.utc).timestamp())
@@ -180,8 +179,7 @@ def listed(strings):
 
 
 def framed(asked):
-    """A question in the form that the examples `asked` in Rust and Go read: its fields one after the other, as LENGTH:OCTETS or as lists of such
-    strings."""
+    """A question in the form that the examples `asked` in Rust and Go read: its fields in their order, as LENGTH:OCTETS or as lists of these."""
     is_text, is_date = isinstance(asked.request, bytes), isinstance(asked.moment, bytes)
     fields = [asked.command, "strict" if asked.is_strict else "open", asked.limits, asked.access_list, asked.sequence, asked.key]
     request = string("text" if is_text else "words") + listed([asked.request] if is_text else asked.request)
@@ -211,8 +209,7 @@ class Version(unittest.TestCase):
     """The version of the bindings."""
 
     def test_each_part_has_the_version_of_the_file(self):
-        """The crates, the modules for Python and Go and the header have the version of the file VERSION. What the bindings demand of a library is its
-        first two numbers."""
+        """The crates, the modules for Python and Go and the header have the version of the file VERSION. Bindings demand its first two numbers."""
         line = r'^version = "(.*)"$'
         own = {"bindings/rust/Cargo.toml": line, "bindings/rust/spki-sys/Cargo.toml": line, "bindings/python/pyproject.toml": line,
                "bindings/rust/spki-serde/Cargo.toml": line, "bindings/python/spki/__init__.py": r'^__version__ = "(.*)"$',
@@ -295,8 +292,7 @@ class Binding(built.OfLibrary):
                 self.check_output(words, (access_list, [b"sequence", alice.key, certificate, signature], holder.key), wanted)
 
     def check_output(self, words, parts, wanted):
-        """The example that the command `words` runs must write the text `wanted` for the access list, the sequence and the key in `parts`, and the
-        request `(ftp host)`."""
+        """The example that the command `words` runs must write `wanted` for the list, the sequence and the key in `parts`, and `(ftp host)`."""
         with tempfile.TemporaryDirectory() as room:
             paths = [os.path.join(room, name) for name in ("acl", "sequence", "key")]
             for path, value in zip(paths, parts):

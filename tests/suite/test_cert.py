@@ -323,8 +323,7 @@ class OfCertificates(CommandTest):
         self.make_ssh_key("bob")
 
     def sign(self, *words, by="alice", to="bob.pub", tag=TAG, wanted=0, **more):
-        """Runs `spki-cert sign`, with more options in `words`. It must end with the status `wanted`. Returns what it writes. `more` are settings of
-        the environment."""
+        """Runs `spki-cert sign`, with options in `words` and settings in `more`. It must end with the status `wanted`. Returns what it writes."""
         return self.cert("sign", "--by", by, "--to", to, "--tag", tag, *words, wanted=wanted, **more)
 
     def test_each_kind_of_key_signs(self):
@@ -587,8 +586,7 @@ class OfWords(CommandTest):
 
     def chosen_words(self, text, case):
         """A list with the word of the one reason of a case that `ask` explains. It is empty if the model's lines of `explain` are no reasons: a
-        refusal, or `no entries`. The explanation must have two lines or more. `text` is the case in octets, and `case` its value, in which
-        `case[3]` is the sequence."""
+        refusal, or `no entries`. The explanation must have two lines or more. `text` is the case, `case` its value, `case[3]` the sequence."""
         lines = answers.answer("explain", text)[1].decode().splitlines()
         parts = [re.fullmatch(r"(?:entry (\d+) )?(?:item (\d+) )?(\w+)", line) for line in lines]
         if None in parts:
@@ -828,16 +826,17 @@ int main(int count, char **words)
         self.assertEqual(status, 0, output)
 
     def test_install_sh_installs_and_uninstalls(self):
-        """install.sh takes a built program, a static library and the shared one beside it: empty files here. --uninstall leaves no file under the
-        prefix, the folder of the installation. Nothing is made beside the prefix."""
+        """install.sh takes a built program, a static library and the shared one beside it: empty files here. The command loads the one in LIBDIR.
+        --uninstall leaves no file under the prefix, the folder of the installation. Nothing is made beside the prefix."""
         for name in ("prog", "lib.a", "lib.so"):
             self.write(name, "")
-        before = set(os.listdir(self.room))
-        script = os.path.join(TOP, "install.sh")
-        run_checked(script, self.at("prefix"), self.at("prog"), self.at("lib.a"))
-        status, output = output_of(sys.executable, self.at("prefix/bin/spki-cert"), "--version")
-        self.assertEqual((status, output), (0, f"spki-cert {version()}\n"))
-        run_checked(script, "--uninstall", self.at("prefix"))
+        before, script, command = set(os.listdir(self.room)), os.path.join(TOP, "install.sh"), (sys.executable, self.at("prefix/bin/spki-cert"))
+        settings = {name: value for name, value in {**os.environ, "LIBDIR": "lib/of-a-machine"}.items() if name != "SPKI_LIBRARY"}
+        run_checked(script, self.at("prefix"), self.at("prog"), self.at("lib.a"), env=settings)
+        self.assertEqual(output_of(*command, "--version"), (0, f"spki-cert {version()}\n"))
+        output = output_of(*command, "ask", "--case", os.path.join(TOP, "examples", "delegation.sexp"), env=settings)[1]
+        self.assertIn("lib/of-a-machine/libspki_c.so: file too short", output)
+        run_checked(script, "--uninstall", self.at("prefix"), env=settings)
         left = [name for _, _, names in os.walk(self.at("prefix")) for name in names]
         self.assertEqual((left, before), ([], set(os.listdir(self.room)) - {"prefix"}))
 
@@ -868,8 +867,7 @@ def version():
 
 
 def data_for_libgcrypt(kind, message):
-    """The S-expression by which libgcrypt is given `message`, octets, to verify by a key of this kind. It has the message itself for Ed25519, and
-    otherwise its digest."""
+    """The S-expression by which libgcrypt is given `message`, octets, to verify by a key of this kind: itself for Ed25519, else its digest."""
     sha256, sha384 = ([b"hash", name.encode(), hashlib.new(name, message).digest()] for name in ("sha256", "sha384"))
     return {"ed25519": [b"data", [b"flags", b"eddsa"], [b"hash-algo", b"sha512"], [b"value", message]],
             "rsa": [b"data", [b"flags", b"pkcs1"], sha256], "p256": [b"data", [b"flags", b"raw"], sha256],

@@ -155,8 +155,7 @@ def answers_of(words, questions):
 
 
 def faults_of_answers(words, questions):
-    """A text with what is wrong with the answers of `clibrary.c`, empty if nothing is. `words` start it. `questions` are pairs of a question and the
-    wanted answer."""
+    """A text with what is wrong with the answers of `clibrary.c`, if anything. `words` start it. `questions` has questions with their answers."""
     status, errors, answers = answers_of(words, questions)
     if status or len(answers) != len(questions):
         return f"status {status} after {len(answers)} of {len(questions)} answers: {errors[-2000:]}"
@@ -311,8 +310,7 @@ class Links(OfC):
 
 
 class Answers(OfC):
-    """`clibrary.c`: the answers of the static library to each kind of question, also where memory is refused, and of the shared one to short
-    questions."""
+    """`clibrary.c`: the answers of the static library to each kind of question, also without memory, and of the shared one to short questions."""
 
     def test_questions_of_files(self):
         self.check_answers(all_questions(self.program).files, "static", threads=THREADS, refusals=REFUSALS)

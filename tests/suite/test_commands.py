@@ -154,7 +154,7 @@ MACHINES = [
     Machine("docs/CERTIFICATES.md", blocks="on"), Machine("examples/README.md", INSTALL, "mkdir ~/clone/FOLDER\n", blocks="apart"),
     Machine("apps/spki-authd/README.md")]
 # The commands that root runs, and the others in backticks that run in the clone.
-OF_ROOT = re.compile(r"(useradd|usermod|install -d) .*|cd apps/spki-authd && go build .*")
+OF_ROOT = re.compile(r"(useradd|usermod|install -d) .*|\(cd apps/spki-authd && go build .*")
 IN_CLONE = re.compile(r"python3 -m venv .*")
 
 
@@ -194,7 +194,7 @@ class OnMachines(built.OfLibrary):
             answers = [each.strip("\n") for each in output.split(f"{test_guide.END}\n")]
             self.assertEqual(answers, [*(answer.strip("\n") for kind, _, answer in steps if kind == "command"), ""])
         inline = [command.line for command in commands if command.kind == "inline"]
-        by_root = [f"({line})" for line in inline if OF_ROOT.fullmatch(line)]  # (in subshells, since some change the folder)
+        by_root = [line for line in inline if OF_ROOT.fullmatch(line)]
         blocks = [block.splitlines() for block in page_commands.indented_blocks(text_of(machine.page))] if machine.blocks else []
         runnable = [[line for line in lines if not NOT_ON_MACHINES.fullmatch(line)] for lines in blocks]
         by_user = [[f"timeout 2 {line}" if SERVES.fullmatch(line) else line for line in lines] for lines in runnable]
@@ -203,8 +203,8 @@ class OnMachines(built.OfLibrary):
             self.check_statuses(machine, by_root, by_user)
 
     def check_statuses(self, machine: Machine, by_root: list[str], by_user: list[list[str]]) -> None:
-        """Commands of root, then blocks of the user's, must end with status 0 or that of STATUSES. `Machine.blocks` says where each block begins. In
-        the output the page's name divides the two."""
+        """Commands of root, in one shell, then blocks of the user's, where `Machine.blocks` says, must end with status 0 or that of STATUSES. In the
+        output the page's name divides the two."""
         begin = "" if machine.blocks == "on" else "cd ~/clone\n"
         script = "cd ~/clone\n" + "".join(begin + script_of(lines) for lines in by_user)
         output = self.output(machine, f"echo '{END}' 0\n" + script_of(by_root), script)
@@ -230,8 +230,7 @@ class OfToolchain(unittest.TestCase):
     """What the toolchain does that a page begins with."""
 
     def first_command(self) -> None:
-        """The first command of README compiles the program, which takes more than a minute, and prints the answer that the page says. It becomes
-        `test_first_command` in the long tests alone."""
+        """The first command of README compiles the program, in over a minute, and prints the answer that the page says. It is a long test."""
         line = next(command.line for command in page_commands.commands_of("README.md") if command.kind == "indented")
         status, output = output_of("sh", "-c", line, cwd=TOP, seconds=3 * SECONDS)
         self.assertEqual((status, "yes entry 1" in output.splitlines()), (0, True), output)

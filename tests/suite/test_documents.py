@@ -1,11 +1,10 @@
 """Tests that what the documents name is there: each relative link and its heading, each path of a file or folder of this repository in backticks and
 in indented commands, the versions of the manual and of README.md, which are that of the file VERSION, and the logic of the toolchain that README.md
 names, which `rt --version` prints; each definition of docs/DEFINITIONS.md, in the file of its row; each clause of docs/PROOFS.md and each call of
-docs/ARCHITECTURE.md, in the function of its row (`claims.py`, `ways.py`). README.md, and the pages together, are no longer than their limits.
+docs/ARCHITECTURE.md, in the function of its row (`claims.py`, `ways.py`). Pages are within their limits, and count the lines of files rightly.
 
 A path is what begins with a name at the top of the repository, or in the folder of the document, or with `src`, `specs` or `proofs` in the page of a
-crate; and each word in backticks that ends as a file of a kind that is here. A word in capitals stands for any name, and so does `*`. What is built,
-in `out/`, is left out. Each page is a test."""
+crate; and each word in backticks that ends as a file here. Words in capitals and `*` stand for any name. `out/` is left out. Each page is a test."""
 import glob
 import os
 import re
@@ -24,6 +23,8 @@ FENCED = re.compile(r"^```(\w*) ?(\S*)\n(.*?)^```$", re.MULTILINE | re.DOTALL)
 HEADING = re.compile(r"^#+ (.*)$", re.MULTILINE)
 PATH = re.compile(r"^(?:\.ci|[\w*+-][\w.*+-]*)(?:/[\w.*+-]+)*/?$")
 KINDS = (".md", ".py", ".sexp", ".csexp", ".tsexp", ".rt", ".antt", ".h", ".c", ".sh", ".svg")
+# A link to a file, and in how many lines it does something: behind the link, or before it as the link's text.
+COUNTED = re.compile(r"\]\(([^)\s]+)\)[^][().]* in (\d+)(?:\slines|\.)|\[(\d+)(?: lines)? in \w+\]\(([^)\s]+)\)")
 LOGIC = re.compile(r"rattle-kit-\w+ (logic [0-9a-f]+)")
 PLACEHOLDER = re.compile(r"\b[A-Z]{2,}(?![A-Za-z.])")
 # What pages name that is made by a command, by the reader, or by another program.
@@ -107,8 +108,7 @@ def below_crates(part: str) -> list[str]:
 
 
 def missing_definitions() -> Iterator[str]:
-    """Yields `FILES: NAME` for each definition that a row of docs/DEFINITIONS.md names and that is in none of the row's files. The head of a section
-    names its crates, and each file may be in any of them."""
+    """Yields `FILES: NAME` for each definition that a row of docs/DEFINITIONS.md names and its files lack, in each crate of the section's head."""
     for head, rows in claims.SECTION.findall(text_of("docs/DEFINITIONS.md")):
         for files, names in DEFINED.findall(rows):
             paths = [f"crates/{crate}/specs/{file}.antt" for crate in re.findall(r"`(\w+)`", head) for file in files.split(", ")]
@@ -159,9 +159,11 @@ class Documents(unittest.TestCase):
         self.assertEqual(list(claims.unclaimed("docs/PROOFS.md", "crates/spki_c/spki.h", "crates/spki_c/spki.c")), [])
 
     def check_page(self, page: str) -> None:
-        """All that a page names must be there."""
+        """All that a page names must be there, and each file have as many lines as the page says."""
+        counts = [(file + other, number + of_other) for file, number, of_other, other in COUNTED.findall(text_of(page))]
+        wrong = [pair for pair in counts if text_of(os.path.join(os.path.dirname(page), pair[0])).count("\n") != int(pair[1])]
         missing = sorted({*dead_links(page), *dead_paths(page, NAMES)})
-        self.assertEqual(missing, [], f"{page}: these are not there")
+        self.assertEqual((missing, wrong), ([], []), f"{page}: these are not there, or have another number of lines")
 
 
 def page_test(page: str) -> Callable[[Documents], None]:

@@ -33,8 +33,7 @@ WRITERS = 6  # (at the same time)
 
 
 def sealed(*lines: str) -> bytes:
-    """The file of ended certificates with these lines. Its last line is `end`, how many of them begin with a digest, and the SHA-256 of all lines
-    before it."""
+    """The file of ended certificates with these lines and a last one: `end`, how many of them begin with a digest, and the SHA-256 of all."""
     text = "".join(f"{line}\n" for line in lines).encode("utf-8", "surrogateescape")
     count = len([line for line in lines if re.match("[0-9a-f]{64}", line)])
     return text + f"end {count} {hashlib.sha256(text).hexdigest()}\n".encode()
@@ -48,8 +47,7 @@ def digests_by_model(text: bytes) -> list[str]:
 
 
 def make_unusable(kind: str, path: str) -> None:
-    """Makes at a path what `spki-cert end` must not use as its file: no ordinary file, or one that cannot be used. `kind` is a word of
-    `test_unusable_files`."""
+    """Makes at a path what `spki-cert end` must not use: no ordinary file, or one that cannot be used. `kind` is a word of `test_unusable_files`."""
     if kind == "fifo":
         os.mkfifo(path)
     elif kind == "folder":
@@ -210,8 +208,7 @@ class Ends(TestOfEnding):
         self.check_unchanged(text, "--list")
 
     def test_new_file(self) -> None:
-        """Without a certificate the command makes the file, with mode 644. If the file is there, the command says whether it is whole, and how many
-        digests it has."""
+        """Without a certificate the command makes the file, with mode 644. Of one that is there it says if it is whole, and counts the digests."""
         os.unlink(self.at(ENDED))
         self.assertIn("made; digests: 0", self.end())
         self.assertEqual((self.digests_in_file(), stat.S_IMODE(os.stat(self.at(ENDED)).st_mode)), ([], 0o644))

@@ -51,8 +51,7 @@ READ_FAULT = (3, b"", b"spki: read fault\n")
 WRITE_FAULT = (3, b"", b"spki: write fault\n")
 UNSAID_FAULT = (3, b"", b"")
 
-# What commands write on cases of examples/, and on cases of chains.py: the status and the line. A command that the program does not have is
-# passed over.
+# What commands write on cases of examples/ and of chains.py: the status and the line. A command that the program does not have is passed over.
 FILES = {
     "first-run.csexp": {"check": "0 yes entry 1", "explain": "0 entry 1 grants",
                         "reduce": "0 entry 1 (five (subject (public-key (test a))) (tag (ftp host)))"},
@@ -320,8 +319,7 @@ def with_valgrind(program, example, plan):
 
 
 def run_task(function, program, *words):
-    """Calls the function of a task with the program and the task's words. Returns the number of runs, of refusals, and the faults, as the function
-    does. An OSError is a fault."""
+    """Calls the function of a task with the program and its words. Returns the numbers of runs and refusals, and the faults, also an OSError."""
     try:
         return function(program, *words)
     except OSError as fault:
@@ -331,8 +329,7 @@ def run_task(function, program, *words):
 # ---- the parts: the tasks of each, as functions and their words
 
 def memory_refused(behind):
-    """Tasks that refuse each request for memory in turn, on examples of at most MOST_REFUSED octets. With `behind` ".." all later requests are
-    refused too."""
+    """Tasks that refuse each request for memory in turn, and with `behind` ".." all later ones, on examples of at most MOST_REFUSED octets."""
     for example in examples_of(file_examples, chain_examples, table_examples, most=MOST_REFUSED):
         yield refused_in_turn, example, behind
 

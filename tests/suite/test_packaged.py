@@ -7,6 +7,7 @@ import json
 import os
 import pathlib
 import re
+import runpy
 import shutil
 import subprocess
 import sys
@@ -126,10 +127,11 @@ class Packages(built.OfLibrary):
         self.assertEqual(run(self.inside("spki", "usr", "bin", "spki"), "check", case), (0, b"yes entry 1\n"))
 
     def test_version_and_paths_of_daemon(self) -> None:
-        """The daemon has the version, and no path of the folder in which it was built."""
+        """The daemon has the version, and no path of the folder in which it was built. The page beside it has logrotate run this program."""
         program = self.inside("spki-authd", "usr", "bin", "spki-authd")
         self.assertEqual(output_of(program, "-version"), (0, f"spki-authd {VERSION}\n"))
         self.assertNotIn(TOP.encode(), pathlib.Path(program).read_bytes())
+        self.assertIn(" /usr/bin/spki-authd -reopen\n", text_of(self.inside("spki-authd", "usr/share/doc/spki-authd/README.md")))
 
     def test_stripped(self) -> None:
         """Nothing is left that is for debuggers. The words that name the logic of the proofs are left: in the daemon, those of the library in it."""
@@ -165,7 +167,8 @@ class Packages(built.OfLibrary):
                 self.assertEqual([path for line in lines for path in line if not os.path.exists(path)], [])
 
     def test_module_loads_its_library(self) -> None:
-        """The module of spki-cert loads the library of its own version, also if `libspki_c.so` is beside it: here a file that is no library."""
+        """The module of spki-cert loads the library of its version, also if a `libspki_c.so` that is none is beside it. The command names none."""
+        self.assertEqual(text_of(self.inside("spki-cert", "usr", "bin", "spki-cert")), text_of("apps/spki-cert/spki-cert"))
         folder = self.root_with(SHARED)
         shutil.copy(self.inside(SHARED, "DEBIAN", "control"), os.path.join(folder, PLACE, "libspki_c.so"))
         settings = {name: value for name, value in os.environ.items() if name != "SPKI_LIBRARY"}
@@ -295,19 +298,33 @@ class Scripts(unittest.TestCase):
             self.assertEqual((status, "set SOURCE_DATE_EPOCH" in output), (2, True), output)
             self.assertFalse(os.path.exists(os.path.join(room, "made")))
 
-    def test_installing_the_daemon(self) -> None:
-        """The script of the package makes the user, opens the configuration's folder to root and this user, and starts nothing. The programs by
-        which it would change the system are replaced by ones that print their names and arguments."""
-        with tempfile.TemporaryDirectory() as room:
-            for name in ("adduser", "chown", "chmod", "systemctl", "deb-systemd-invoke", "runuser"):
-                with open(os.path.join(room, name), "w", encoding="ascii") as file:
-                    file.write(f'#!/bin/sh\necho {name} "$@"\n')
-                os.chmod(file.name, 0o755)
-            settings = {**os.environ, "PATH": f"{room}:{os.environ['PATH']}"}
-            status, output = output_of("sh", os.path.join(TOP, "packaging", "spki-authd.postinst"), "configure", "", env=settings)
-        self.assertEqual(status, 0, output)
-        self.assertRegex(output, "adduser .*--system --group .* spki-authd\nchown root:spki-authd /etc/spki-authd\nchmod 750 /etc/spki-authd\n")
-        self.assertEqual(re.findall(r"^(?:systemctl|deb-systemd-invoke) .*(?:start|enable).*", output, re.MULTILINE), [])
+    def test_modules_in_spdx(self) -> None:
+        """The list in SPDX has the modules that the build information of a program in Go names, but those of this repository."""
+        describe = runpy.run_path(os.path.join(TOP, "packaging", "describe.py"))
+        linked = describe["linked_into"]([b"\ndep\tconguraki/spki\tv0.2.0\n=>\t../go\t(devel)\t\ndep\tgithub.com/lib/pq\tv1.10.7\n"])
+        self.assertEqual({describe["foreign_package"](*other)["SPDXID"] for other in linked}, {"SPDXRef-github.com-lib-pq-v1.10.7"})
+
+    def test_scripts_of_the_daemon(self) -> None:
+        """A first installation makes the user, opens the configuration's folder to root and this user, and starts nothing. A later one restarts the
+        daemon if the packaged program accepts the configuration. A purge removes the links to units that are gone. The scripts run on a folder of
+        their own, with programs that print their names and arguments in place of those by which they would change the system."""
+        room, outputs, units = room_for(self), [], "etc/systemd/system"
+        for name in ("adduser", "chown", "chmod", "systemctl", "deb-systemd-invoke", "runuser"):
+            pathlib.Path(room, name).write_text(f'#!/bin/sh\necho {name} "$@" >&2\n', encoding="ascii")
+            os.chmod(os.path.join(room, name), 0o755)
+        for path in ("run/systemd/system", "etc/spki-authd/config.json", f"{units}/multi-user.target.wants", f"{units}/sockets.target.wants"):
+            os.makedirs(os.path.join(room, path))
+        for link in ("multi-user.target.wants/spki-authd.service", "sockets.target.wants/spki-authd.socket"):
+            os.symlink("nothing", os.path.join(room, units, link))
+        for script, word, version in (("postinst", "configure", ""), ("postinst", "configure", "0.1.0"), ("postrm", "purge", "")):
+            text = re.sub("/(?=etc/|run/)", f"{room}/", text_of(f"packaging/spki-authd.{script}"))
+            status, output = output_of("sh", "-s", word, version, text=text, env={**os.environ, "PATH": f"{room}:{os.environ['PATH']}"})
+            self.assertEqual(status, 0, output)
+            outputs.append(output.replace(room, ""))
+        self.assertRegex(outputs[0], "adduser .*--system --group .* spki-authd\nchown root:spki-authd /etc/spki-authd\nchmod 750 /etc/spki-authd\n")
+        self.assertEqual(re.findall(r"^(?:systemctl|deb-systemd-invoke) .*(?:start|enable).*", outputs[0], re.MULTILINE), [])
+        self.assertIn("\nrunuser -u spki-authd -- /usr/bin/spki-authd -test\ndeb-systemd-invoke restart spki-authd.service\n", outputs[1])
+        self.assertEqual([*pathlib.Path(room, units).glob("*/*")], [])
 
     @needs.needs("man")
     def test_manual_of_the_daemon(self) -> None:

@@ -502,8 +502,7 @@ class Faults(unittest.TestCase):
                 self.assertEqual((first, printed.count("Traceback"), message in printed), (line, int(bool(message)), True), printed)
 
     def test_a_thread_that_does_not_start_uses_up_no_connection(self) -> None:
-        """If the thread for a connection cannot start, the connection is closed. The next one is served, though the server may have only one at
-        once."""
+        """If the thread for a connection cannot start, the connection is closed. The next is served, though the server may have one at once."""
         self.server.room = threading.BoundedSemaphore(1)
         with mock.patch.object(threading.Thread, "start", side_effect=RuntimeError("can't start new thread")):
             first, printed = self.ask({})
@@ -770,8 +769,7 @@ class Starting(built.OfProgram):
     """How the page starts, after `tests/run --quick` and with the library of the package, and what it says where it cannot."""
 
     def test_the_page_starts_or_names_the_command_to_build(self) -> None:
-        """In a copy of the sources without anything built, the page ends with status 2 and names the command. With the program that `tests/run
-        --quick` leaves, it starts."""
+        """In a copy where nothing is built, the page ends with status 2 and names the command. By the program of `tests/run --quick` it starts."""
         with tempfile.TemporaryDirectory() as room:
             for name in ("apps/playground", "apps/spki-cert", "bindings/python", "examples/guide"):
                 shutil.copytree(os.path.join(TOP, name), os.path.join(room, name))
