@@ -5,6 +5,10 @@ package main
 
 import (
 	"errors"
+	"os"
+	"regexp"
+	"runtime"
+	"strconv"
 	"sync"
 	"sync/atomic"
 	"testing"
@@ -13,6 +17,26 @@ import (
 	"conguraki/spki"
 	"conguraki/spki/guard"
 )
+
+// TestThreadsAreBounded compares the room of the gate on small and large machines. By the processors that Go uses on the largest one, the threads are
+// at most half of what the unit of systemd allows: Go and the reading of files need some more.
+func TestThreadsAreBounded(t *testing.T) {
+	for processors, wanted := range map[int]int{1: 58, 4: 64, 36: 128, 384: 128} {
+		if room := roomFor(processors); room != wanted {
+			t.Errorf("%d processors: %d", processors, room)
+		}
+	}
+	defer runtime.GOMAXPROCS(runtime.GOMAXPROCS(384))
+	boundProcessors()
+	unit, err := os.ReadFile("spki-authd.service")
+	if err != nil {
+		t.Fatal(err)
+	}
+	most, _ := strconv.Atoi(string(regexp.MustCompile(`\nTasksMax=(\d+)\n`).FindSubmatch(unit)[1]))
+	if threads := runtime.GOMAXPROCS(0) + roomFor(384); threads > most/2 {
+		t.Errorf("%d threads of %d", threads, most)
+	}
+}
 
 // TestGateOfLibrary sends four requests at once, through a gate that lets two pass. The verifier counts how many are in it: never more than two. If it
 // panics, the request leaves the gate too, and gets 503. If it takes longer than timeAtGate, the other two requests get 503.

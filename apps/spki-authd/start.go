@@ -45,6 +45,7 @@ func start(words words, out, messages io.Writer) error {
 	signals := listenToSignals()
 	debug.SetGCPercent(gcPercent)
 	debug.SetMemoryLimit(gcOctets)
+	boundProcessors()
 	// (the main loop, which reads all lists, stays in this thread: malloc has a heap for each thread, so the memory of an old list is used again)
 	runtime.LockOSThread()
 	defer runtime.UnlockOSThread()
