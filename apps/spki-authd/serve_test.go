@@ -39,12 +39,14 @@ func serveHere(t *testing.T, fields string) *servedSite {
 	here.config.Listen, here.config.SocketMode, here.config.Log = unixScheme+here.socket, "0600", filepath.Join(folder, "log")
 	here.config.Control = here.config.Listen + controlSuffix
 	signals := signals{make(chan os.Signal, 1), make(chan os.Signal, 1), make(chan os.Signal, 1)}
-	here.daemon = &daemon{decider: here.decider, signals: signals, orders: make(chan order), begun: time.Now()}
-	var messages journal
-	if err := here.daemon.open(io.Discard, messages.writer()); err != nil {
+	ledger, err := openLedger(here.config.Log, here.config.LogSync)
+	if err != nil {
 		t.Fatal(err)
 	}
-	// (open has set the daemon's own logs: the lines go to the site's again, which tests read)
+	here.daemon = &daemon{decider: here.decider, ledger: ledger, signals: signals, orders: make(chan order), begun: time.Now()}
+	var messages journal
+	here.daemon.startWriters(io.Discard, messages.writer())
+	// (startWriters has set the daemon's own logs: the lines go to the site's again, which tests read)
 	here.logGrant, here.logOther = here.log.grant, here.log.other
 	ended := make(chan error, 1)
 	go func() { ended <- here.daemon.listenAndServe() }()
@@ -67,21 +69,16 @@ func serveHere(t *testing.T, fields string) *servedSite {
 
 // TestEndsWithoutDisk ends a daemon while fsync fails for its log of grants: `end` fails, and an event says that grants may not be on the disk.
 func TestEndsWithoutDisk(t *testing.T) {
-	daemon := &daemon{decider: newSite(t, "").decider, begun: time.Now()}
-	folder := t.TempDir()
-	daemon.config.Log = filepath.Join(folder, "log")
+	ledger, disk := openFailing(t, syncSeconds, "")
+	daemon := &daemon{decider: newSite(t, "").decider, ledger: ledger, begun: time.Now()}
 	var messages journal
-	if err := daemon.open(io.Discard, messages.writer()); err != nil {
-		t.Fatal(err)
-	}
-	listener, err := net.Listen("unix", filepath.Join(folder, "socket"))
+	daemon.startWriters(io.Discard, messages.writer())
+	listener, err := net.Listen("unix", filepath.Join(t.TempDir(), "socket"))
 	if err != nil {
 		t.Fatal(err)
 	}
 	// (from now on fsync fails. The writer's goroutine, which uses the file, changes it between two writes)
-	daemon.granted.callBetweenWrites(func() {
-		daemon.ledger.file = &failingFile{File: daemon.ledger.file.(*os.File), room: -1, syncFails: true}
-	})
+	daemon.granted.callBetweenWrites(func() { disk.syncFails = true })
 	// (`end` closes the listener, and waits until `serve` has noticed that)
 	connections := newConnectionServer(daemon.decider)
 	go connections.serve(listener)
