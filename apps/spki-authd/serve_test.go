@@ -12,6 +12,7 @@ import (
 	"net"
 	"net/http"
 	"os"
+	"os/exec"
 	"path/filepath"
 	"strings"
 	"sync"
@@ -499,5 +500,41 @@ func TestCommandLines(t *testing.T) {
 		if status := run(words, &fullWriter{}, &messages); status != 1 || !strings.Contains(messages.String(), errFull.Error()) {
 			t.Errorf("%q to a full disk: %d, %q", words, status, messages.String())
 		}
+	}
+}
+
+// asProgram is the variable of the environment by which the binary of the tests runs the program in place of the tests.
+const asProgram = "SPKI_AUTHD_AS_PROGRAM"
+
+// init runs the program if asProgram is set, before the tests open a file.
+func init() {
+	if os.Getenv(asProgram) != "" {
+		main()
+	}
+}
+
+// TestClosedOutputs starts the program with both outputs closed, has it deny the request of -health, and ends it. Its log of grants stays empty: the
+// lines of the denial and of the events are lost.
+func TestClosedOutputs(t *testing.T) {
+	program, err := os.Executable()
+	if err != nil {
+		t.Fatal(err)
+	}
+	t.Setenv(asProgram, "1")
+	folder := t.TempDir()
+	text := strings.NewReplacer("/run/x/s", folder+"/socket", "/acl", writeFile(t, "acl", "(acl)"), "/log", folder+"/log").Replace(leastConfig)
+	config := writeFile(t, "config", text)
+	daemon := exec.Command("/bin/sh", "-c", `exec "$0" -config "$1" >&- 2>&-`, program, config)
+	if err := daemon.Start(); err != nil {
+		t.Fatal(err)
+	}
+	defer daemon.Process.Kill()
+	waitForSocket(t, folder+"/socket"+controlSuffix)
+	var out, messages bytes.Buffer
+	status := run([]string{"-health", "-config", config}, &out, &messages)
+	_ = daemon.Process.Signal(syscall.SIGTERM)
+	fault := daemon.Wait()
+	if log, err := os.ReadFile(folder + "/log"); status != 0 || fault != nil || err != nil || len(log) > 0 {
+		t.Errorf("%d, %s, %v, %v, the log: %s", status, messages.String(), fault, err, log)
 	}
 }
