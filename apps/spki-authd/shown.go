@@ -6,6 +6,7 @@ package main
 import (
 	"crypto/sha256"
 	"encoding/hex"
+	"strings"
 	"sync"
 
 	"conguraki/spki/guard"
@@ -65,7 +66,8 @@ func (s *sequences) add(text string, sequence *shownSequence) {
 		return
 	}
 	sequence.text = []byte(text)
-	s.kept.add(text, sequence)
+	// (`text` is a part of a header's value, which may be far longer and would be kept with it)
+	s.kept.add(strings.Clone(text), sequence)
 }
 
 // canonical returns the valid signatures of a sequence, with its text in canonical form, and that text. The first call makes it, which takes as long as a
