@@ -9,17 +9,26 @@ import (
 
 // A clock notes whether the time of day goes back: then certificates whose window was over count again.
 type clock struct {
-	// The moment that was noted last, in nanoseconds since 1970, and how often note has returned true.
-	last, timesBack atomic.Int64
+	// By how many nanoseconds the time of day was ahead when it was noted last: more than 0 if it was put forward since origin, and less if it was put
+	// back. And how often it went back.
+	ahead, timesBack atomic.Int64
 }
 
-// By how much a moment may be before one that another goroutine noted earlier: each reads the clock, and may be interrupted before it notes.
-const backAtLeast = time.Second
+// origin is a moment before the daemon notes any. A clock that nobody sets tells the time since then, and so what the time of day should be.
+var origin = time.Now()
 
-// note notes a moment. If that is more than backAtLeast before the one that was noted last, it counts once more in timesBack, and note returns true.
+// The least by which the time of day goes back. It is a little less than a second, since the two clocks are not read at once.
+const backAtLeast = 900 * time.Millisecond
+
+// note notes a moment of time.Now, which has both clocks, and returns what noteAhead does.
 func (c *clock) note(now time.Time) bool {
-	last := c.last.Swap(now.UnixNano())
-	if now.UnixNano() >= last-int64(backAtLeast) {
+	// (Round(0) drops the clock that nobody sets)
+	return c.noteAhead(now.Round(0).Sub(origin.Round(0)) - now.Sub(origin))
+}
+
+// noteAhead notes by how much the time of day is ahead. If that is less than it was by backAtLeast, it counts once more in timesBack, and returns true.
+func (c *clock) noteAhead(ahead time.Duration) bool {
+	if time.Duration(c.ahead.Swap(int64(ahead)))-ahead < backAtLeast {
 		return false
 	}
 	c.timesBack.Add(1)

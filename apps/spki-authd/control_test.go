@@ -234,6 +234,9 @@ func TestMetrics(t *testing.T) {
 	_, carols := s.sequencesShown()
 	s.askAs(s.mallory, "GET", "/web/docs/b", carols)
 	s.askAs(s.mallory, "GET", "//", "")
+	// (as if two lines of denials and three events had been lost)
+	s.daemon.other.failed.Add(2)
+	s.daemon.messages.dropped.Add(3)
 	status, out, messages := s.runProgram(t, "-metrics")
 	if status != 0 {
 		t.Fatal(messages)
@@ -247,10 +250,13 @@ func TestMetrics(t *testing.T) {
 		`decisions_total{answer="yes",rule="1"} 2`, `decisions_total{answer="no",rule="1"} 3`, `decisions_total{answer="refused",rule="0"} 1`,
 		`seconds_bucket{le="+Inf"} 6`, "seconds_count 6", `signatures_total{how="known"} 3`, `signatures_total{how="verified"} 1`,
 		`signatures_total{how="spared"} 2`, "list_entries 1", "reloads_refused_total 0", "last_reload_refused 0", "log_lines_total 2", "log_failures_total 0",
-		"clock_back_total 0", "lines_lost_total 0",
+		"clock_back_total 0", "lines_lost_total 5",
 	} {
 		if !strings.Contains(out, "\nspki_authd_"+wanted+"\n") {
 			t.Errorf("%s is not in %s", wanted, out)
 		}
+	}
+	if text, _ := s.daemon.health(); !strings.Contains(text, ", lost 5\n") {
+		t.Error(text)
 	}
 }

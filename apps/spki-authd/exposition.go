@@ -75,7 +75,7 @@ func (d *daemon) exposition() string {
 	text.writeStores(present)
 	text.writeSingle("log_lines_total", "counter", "Lines in the log of grants.", d.granted.written.Load())
 	text.writeSingle("log_failures_total", "counter", "Grants that became 503, since their lines could not be written in time.", d.granted.failed.Load())
-	text.writeSingle("lines_lost_total", "counter", "Other lines that were dropped.", d.other.failed.Load()+d.other.dropped.Load())
+	text.writeSingle("lines_lost_total", "counter", "Other lines that were dropped.", d.other.lost()+d.messages.lost())
 	return text.String()
 }
 

@@ -53,8 +53,8 @@ func (d *decider) logAnswer(result *record) {
 	d.logOther(*buffer)
 }
 
-// answer reads a request and decides it at a moment, without logging. One with a wrong secret is answered by `no`, and any other that cannot be read
-// by `refused`. After a panic the answer is `failed`.
+// answer reads a request and decides it at a moment, without logging. One with a wrong secret is answered by `no`, one that fails with errBusy by
+// `failed`, and any other that cannot be read by `refused`. After a panic the answer is `failed`.
 func (d *decider) answer(request *http.Request, now time.Time) (result record) {
 	defer func() {
 		if fault := recover(); fault != nil {
@@ -70,7 +70,11 @@ func (d *decider) answer(request *http.Request, now time.Time) (result record) {
 		return record{}.withReason(answerNo, err)
 	}
 	if err != nil {
-		return record{ID: inquiry.id, Host: inquiry.host, Target: targetForLog(inquiry.target)}.withReason(answerRefused, err)
+		reply := answerRefused
+		if errors.Is(err, errBusy) {
+			reply = answerFailed
+		}
+		return record{ID: inquiry.id, Host: inquiry.host, Target: targetForLog(inquiry.target)}.withReason(reply, err)
 	}
 	return d.decide(&inquiry, now)
 }

@@ -115,7 +115,7 @@ func (d *daemon) health() (string, error) {
 	fmt.Fprintf(&text, "lists: %d, entries %d, read %s\nlist: %s\n", len(present.lists), present.entries(), age(present.read), present.digestNow())
 	fmt.Fprintf(&text, "ended: %d, %s\n", present.ended.count, present.ended.digest)
 	fmt.Fprintf(&text, "log of grants: lines %d, failures %d\n", d.granted.written.Load(), d.granted.failed.Load())
-	fmt.Fprintf(&text, "other lines: %d, lost %d\n", d.other.written.Load(), d.other.failed.Load()+d.other.dropped.Load())
+	fmt.Fprintf(&text, "other lines: %d, lost %d\n", d.other.written.Load()+d.messages.written.Load(), d.other.lost()+d.messages.lost())
 	fmt.Fprintf(&text, "clock: went back %d times\n", d.clock.timesBack.Load())
 	for _, each := range present.lists {
 		if each.store != nil {

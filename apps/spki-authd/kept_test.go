@@ -702,6 +702,28 @@ func TestForeignFiles(t *testing.T) {
 	}
 }
 
+// TestStartBesideAnotherDaemon starts a daemon by mistake, with the log and the folder of one that runs, and with fewer days. It fails before it
+// removes the file of a sequence that ended 13 days ago by these days, and that the other daemon still takes.
+func TestStartBesideAnotherDaemon(t *testing.T) {
+	s := newSiteWithChains(t)
+	runs, _ := openFailing(t, syncNever, "")
+	bobs, _ := s.sequencesShown()
+	if status, reply := s.leaveAs(t, s.bob, bobs); status != 201 {
+		t.Fatal(status, reply)
+	}
+	kept, begun := s.filesOfChains(), s.now().AddDate(0, 0, -20)
+	if err := os.Chtimes(kept[0], begun, begun); err != nil {
+		t.Fatal(err)
+	}
+	text := strings.NewReplacer("/acl", s.config.List, "/log", runs.path, `"requests"`, `"chains": {"folder": "`+s.config.Chains.Folder+`", "days": 7}`+
+		withSignatures+`, "requests"`).Replace(leastConfig)
+	var out, messages journal
+	status := run([]string{"-config", writeFile(t, "config", text)}, out.writer(), messages.writer())
+	if status != statusRefused || !strings.Contains(messages.String(), "another daemon writes this log") || !reflect.DeepEqual(s.filesOfChains(), kept) {
+		t.Errorf("%d, %s, %v", status, messages.String(), s.filesOfChains())
+	}
+}
+
 // TestChainSettings checks settings of `chains`, each with one thing wrong, and right ones, which need signed requests.
 func TestChainSettings(t *testing.T) {
 	const isSigned = true

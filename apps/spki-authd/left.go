@@ -43,7 +43,7 @@ func (c *config) isForChains(request *http.Request) bool {
 }
 
 // inquiryOfPut reads a request that leaves certificates, with its body. It fails with errSecret, errPlace if the target is not the path for certificates,
-// errTooLong, errHeader, errHost, errLength or errChain, and then returns what it has read until then, for the log.
+// errTooLong, errHeader, errHost, errLength, errChain or errBusy, and then returns what it has read until then, for the log.
 func (c *config) inquiryOfPut(request *http.Request) (inquiry inquiry, err error) {
 	if err := c.checkServer(request); err != nil {
 		return inquiry, err
@@ -84,9 +84,14 @@ func bodyOf(request *http.Request) ([]byte, error) {
 	return body, nil
 }
 
-// sequenceInBody returns the S-expression of a body in transport form, whatever form the body has. It fails with errChain if the body is no S-expression,
-// is a sequence without certificates, or is over mostShownOctets in transport form. Whether it is a sequence is tested later.
+// sequenceInBody returns the S-expression of a body in transport form, whatever form the body has. It fails with errChain if the body is no
+// S-expression, is a sequence without certificates, or is over mostShownOctets in transport form, and with errBusy if too many questions are decided
+// at once. Whether it is a sequence is tested later.
 func sequenceInBody(body []byte) (string, error) {
+	if err := library.enter(); err != nil {
+		return "", err
+	}
+	defer library.leave()
 	canonical, err := guard.Canonical(body)
 	sequence := "{" + base64.StdEncoding.EncodeToString(canonical) + "}"
 	if err != nil || bytes.Equal(canonical, noCertificates) || len(sequence) > mostShownOctets {

@@ -9,6 +9,7 @@ import (
 	"io"
 	"os"
 	"strings"
+	"syscall"
 
 	"conguraki/spki/guard"
 )
@@ -51,7 +52,28 @@ func (c *controls) Set(value string) error { *c = append(*c, value); return nil 
 
 // main runs the program, and exits with its status.
 func main() {
+	if err := replaceClosed(); err != nil {
+		fmt.Fprintln(os.Stderr, "spki-authd:", err)
+		os.Exit(statusRefused)
+	}
 	os.Exit(run(os.Args[1:], os.Stdout, os.Stderr))
+}
+
+// replaceClosed opens /dev/null in place of standard input, output and error where they are closed. Otherwise the file that is opened next has the
+// number of one of them, and what is printed is written to that file, such as the log of grants. Since it is opened for reading alone, printing fails
+// as before. It fails if /dev/null cannot be opened.
+func replaceClosed() error {
+	for number := 0; number <= 2; number++ {
+		var about syscall.Stat_t
+		if syscall.Fstat(number, &about) == nil {
+			continue
+		}
+		// (it gets the least number that is free, which is this one)
+		if _, err := syscall.Open(os.DevNull, syscall.O_RDONLY, 0); err != nil {
+			return fmt.Errorf("%s: %w", os.DevNull, err)
+		}
+	}
+	return nil
 }
 
 // A printer writes the output of a command, and keeps the first error of that, so that the exit status says whether the output is whole.

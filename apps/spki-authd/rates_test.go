@@ -125,15 +125,14 @@ func TestTooManyRequests(t *testing.T) {
 	}
 }
 
-// TestClock notes moments, each so long after a begin. Only one is more than a second before the one noted last, and is counted as going back.
+// TestClock notes by how much the time of day is ahead. Only where that is a second less than before, it is counted as going back.
 func TestClock(t *testing.T) {
 	var watched clock
-	begin := time.Unix(1_000_000, 0)
 	for _, row := range []struct {
-		at     time.Duration
+		ahead  time.Duration
 		isBack bool
-	}{{0, false}, {time.Second, false}, {500 * time.Millisecond, false}, {-time.Hour, true}, {-time.Hour, false}, {time.Hour, false}} {
-		if watched.note(begin.Add(row.at)) != row.isBack {
+	}{{0, false}, {time.Second, false}, {500 * time.Millisecond, false}, {-500 * time.Millisecond, true}, {-500 * time.Millisecond, false}, {time.Hour, false}} {
+		if watched.noteAhead(row.ahead) != row.isBack {
 			t.Errorf("%+v", row)
 		}
 	}
@@ -142,32 +141,16 @@ func TestClock(t *testing.T) {
 	}
 }
 
-// TestClockAfterSlowGrant has a grant's line take three seconds, at whose end the main loop notes the time. The request must not note the earlier time
-// of its begin then: the clock has not gone back.
-func TestClockAfterSlowGrant(t *testing.T) {
-	s := newSite(t, "")
-	at := time.Now()
-	s.now = func() time.Time { return at }
-	s.logGrant = func([]byte) error {
-		at = at.Add(3 * time.Second)
-		s.clock.note(s.now())
-		return nil
-	}
-	s.askAs(s.alice, "GET", "/web/x", "")
-	if backs := s.clock.timesBack.Load(); backs != 0 {
-		t.Errorf("the clock went back %d times", backs)
-	}
-}
-
-// TestClockIsWatched sets the clock of a daemon back once. The daemon, which looks at it five times, writes one event.
+// TestClockIsWatched has a daemon look at its clock three times. Before the second look the clock is put back by a second: the daemon writes one event.
 func TestClockIsWatched(t *testing.T) {
 	s := newSite(t, "")
-	at := time.Now()
-	s.now = func() time.Time { return at }
 	var messages journal
 	daemon := &daemon{decider: s.decider, messages: newWriter(&stream{to: messages.writer()}, time.Minute, nil)}
-	for _, later := range []time.Duration{0, time.Second, -time.Hour, time.Second, time.Second} {
-		at = at.Add(later)
+	for turn := 1; turn <= 3; turn++ {
+		if turn == 2 {
+			// (as if it had been ahead by a second until now)
+			s.clock.ahead.Add(int64(time.Second))
+		}
 		daemon.watchClock()
 	}
 	if text := messages.String(); strings.Count(text, `"event":"the clock went back"`) != 1 || strings.Count(text, "\n") != 1 {

@@ -41,21 +41,14 @@ type daemon struct {
 	backs int64
 }
 
-// open opens the log of grants, and starts the writers of grants, other answers and events. `out` gets other answers, and `messages` events. It
-// fails as openLedger does.
-func (d *daemon) open(out, messages io.Writer) error {
-	ledger, err := openLedger(d.config.Log, d.config.LogSync)
-	if err != nil {
-		return err
-	}
+// startWriters starts the writers of grants, which the ledger gets, of other answers and of events. `out` gets other answers, and `messages` events.
+func (d *daemon) startWriters(out, messages io.Writer) {
 	patience := d.config.Limits.timeOfRequest()
-	d.ledger = ledger
 	// (only the ledger has something to do each second)
-	d.granted = newWriter(ledger, patience/partOfGrant, ledger.beat)
+	d.granted = newWriter(d.ledger, patience/partOfGrant, d.ledger.beat)
 	d.other = newWriter(&stream{to: out}, patience/partOfOther, nil)
 	d.messages = newWriter(&stream{to: messages}, patience/partOfOther, nil)
 	d.logGrant, d.logOther = d.granted.write, d.other.offer
-	return nil
 }
 
 // listenAndServe opens the sockets, and answers until a signal ends the daemon. The error says why it could not begin, or what was not done at the

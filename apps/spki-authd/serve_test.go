@@ -12,6 +12,7 @@ import (
 	"net"
 	"net/http"
 	"os"
+	"os/exec"
 	"path/filepath"
 	"strings"
 	"sync"
@@ -39,12 +40,14 @@ func serveHere(t *testing.T, fields string) *servedSite {
 	here.config.Listen, here.config.SocketMode, here.config.Log = unixScheme+here.socket, "0600", filepath.Join(folder, "log")
 	here.config.Control = here.config.Listen + controlSuffix
 	signals := signals{make(chan os.Signal, 1), make(chan os.Signal, 1), make(chan os.Signal, 1)}
-	here.daemon = &daemon{decider: here.decider, signals: signals, orders: make(chan order), begun: time.Now()}
-	var messages journal
-	if err := here.daemon.open(io.Discard, messages.writer()); err != nil {
+	ledger, err := openLedger(here.config.Log, here.config.LogSync)
+	if err != nil {
 		t.Fatal(err)
 	}
-	// (open has set the daemon's own logs: the lines go to the site's again, which tests read)
+	here.daemon = &daemon{decider: here.decider, ledger: ledger, signals: signals, orders: make(chan order), begun: time.Now()}
+	var messages journal
+	here.daemon.startWriters(io.Discard, messages.writer())
+	// (startWriters has set the daemon's own logs: the lines go to the site's again, which tests read)
 	here.logGrant, here.logOther = here.log.grant, here.log.other
 	ended := make(chan error, 1)
 	go func() { ended <- here.daemon.listenAndServe() }()
@@ -67,21 +70,16 @@ func serveHere(t *testing.T, fields string) *servedSite {
 
 // TestEndsWithoutDisk ends a daemon while fsync fails for its log of grants: `end` fails, and an event says that grants may not be on the disk.
 func TestEndsWithoutDisk(t *testing.T) {
-	daemon := &daemon{decider: newSite(t, "").decider, begun: time.Now()}
-	folder := t.TempDir()
-	daemon.config.Log = filepath.Join(folder, "log")
+	ledger, disk := openFailing(t, syncSeconds, "")
+	daemon := &daemon{decider: newSite(t, "").decider, ledger: ledger, begun: time.Now()}
 	var messages journal
-	if err := daemon.open(io.Discard, messages.writer()); err != nil {
-		t.Fatal(err)
-	}
-	listener, err := net.Listen("unix", filepath.Join(folder, "socket"))
+	daemon.startWriters(io.Discard, messages.writer())
+	listener, err := net.Listen("unix", filepath.Join(t.TempDir(), "socket"))
 	if err != nil {
 		t.Fatal(err)
 	}
 	// (from now on fsync fails. The writer's goroutine, which uses the file, changes it between two writes)
-	daemon.granted.callBetweenWrites(func() {
-		daemon.ledger.file = &failingFile{File: daemon.ledger.file.(*os.File), room: -1, syncFails: true}
-	})
+	daemon.granted.callBetweenWrites(func() { disk.syncFails = true })
 	// (`end` closes the listener, and waits until `serve` has noticed that)
 	connections := newConnectionServer(daemon.decider)
 	go connections.serve(listener)
@@ -502,5 +500,41 @@ func TestCommandLines(t *testing.T) {
 		if status := run(words, &fullWriter{}, &messages); status != 1 || !strings.Contains(messages.String(), errFull.Error()) {
 			t.Errorf("%q to a full disk: %d, %q", words, status, messages.String())
 		}
+	}
+}
+
+// asProgram is the variable of the environment by which the binary of the tests runs the program in place of the tests.
+const asProgram = "SPKI_AUTHD_AS_PROGRAM"
+
+// init runs the program if asProgram is set, before the tests open a file.
+func init() {
+	if os.Getenv(asProgram) != "" {
+		main()
+	}
+}
+
+// TestClosedOutputs starts the program with both outputs closed, has it deny the request of -health, and ends it. Its log of grants stays empty: the
+// lines of the denial and of the events are lost.
+func TestClosedOutputs(t *testing.T) {
+	program, err := os.Executable()
+	if err != nil {
+		t.Fatal(err)
+	}
+	t.Setenv(asProgram, "1")
+	folder := t.TempDir()
+	text := strings.NewReplacer("/run/x/s", folder+"/socket", "/acl", writeFile(t, "acl", "(acl)"), "/log", folder+"/log").Replace(leastConfig)
+	config := writeFile(t, "config", text)
+	daemon := exec.Command("/bin/sh", "-c", `exec "$0" -config "$1" >&- 2>&-`, program, config)
+	if err := daemon.Start(); err != nil {
+		t.Fatal(err)
+	}
+	defer daemon.Process.Kill()
+	waitForSocket(t, folder+"/socket"+controlSuffix)
+	var out, messages bytes.Buffer
+	status := run([]string{"-health", "-config", config}, &out, &messages)
+	_ = daemon.Process.Signal(syscall.SIGTERM)
+	fault := daemon.Wait()
+	if log, err := os.ReadFile(folder + "/log"); status != 0 || fault != nil || err != nil || len(log) > 0 {
+		t.Errorf("%d, %s, %v, %v, the log: %s", status, messages.String(), fault, err, log)
 	}
 }

@@ -6,6 +6,7 @@ package main
 import (
 	"crypto/sha256"
 	"encoding/hex"
+	"strings"
 	"sync"
 
 	"conguraki/spki/guard"
@@ -65,13 +66,19 @@ func (s *sequences) add(text string, sequence *shownSequence) {
 		return
 	}
 	sequence.text = []byte(text)
-	s.kept.add(text, sequence)
+	// (`text` is a part of a header's value, which may be far longer and would be kept with it)
+	s.kept.add(strings.Clone(text), sequence)
 }
 
-// canonical returns the valid signatures of a sequence, with its text in canonical form, and that text. The first call makes it, which takes as long as a
-// decision: so callers ask when the sequence is shown for the second time. If it fails, for want of memory, both stay those of the text as it was shown.
+// canonical returns the valid signatures of a sequence, with its text in canonical form, and that text. The first call makes it, which takes as long
+// as a decision: so callers ask when the sequence is shown for the second time. If it fails, for want of memory or since too many questions are
+// decided at once, both stay those of the text as it was shown.
 func (s *shownSequence) canonical() (guard.Verified, []byte) {
 	s.once.Do(func() {
+		if library.enter() != nil {
+			return
+		}
+		defer library.leave()
 		if canonical, err := s.verified.Canonical(); err == nil {
 			s.verified, s.text = canonical, canonical.Sequence()
 		}

@@ -6,7 +6,10 @@ package main
 
 import (
 	"fmt"
+	"net/http"
+	"net/http/httptest"
 	"os"
+	"runtime"
 	"strings"
 	"testing"
 	"time"
@@ -166,6 +169,31 @@ func TestKeptSequencesAreBounded(t *testing.T) {
 		if s.sequences.add(text, &shownSequence{}); (s.sequences.get(text) != nil) != (len(text) <= mostShownOctets) {
 			t.Errorf("%d octets", len(text))
 		}
+	}
+}
+
+// TestKeptSequencesKeepNoHeader shows 200 sequences, each with 128 KiB of spaces before it, and adds them as decideBy does. Of the 25 MiB of these
+// headers little stays in memory.
+func TestKeptSequencesKeepNoHeader(t *testing.T) {
+	s := newSite(t, "")
+	octetsInUse := func() int {
+		var memory runtime.MemStats
+		runtime.GC()
+		runtime.ReadMemStats(&memory)
+		return int(memory.HeapAlloc)
+	}
+	before := octetsInUse()
+	for number := 0; number < 200; number++ {
+		request := httptest.NewRequest(http.MethodGet, "/auth", nil)
+		request.Header.Set(authorization, scheme+strings.Repeat(" ", 1<<17)+sequence(str(fmt.Sprint(number))))
+		shown, err := s.config.sequenceOf(request)
+		if err != nil {
+			t.Fatal(err)
+		}
+		s.sequences.add(shown, &shownSequence{})
+	}
+	if more := octetsInUse() - before; s.countKept() != 200 || more > 5<<20 {
+		t.Errorf("%d sequences take %d octets", s.countKept(), more)
 	}
 }
 

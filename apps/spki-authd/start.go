@@ -39,12 +39,12 @@ func listenToSignals() signals {
 }
 
 // start reads the configuration and its files, and runs the daemon until a signal ends it. With -test it only reads and tests the files, and prints
-// what decider.test prints. With signed requests the daemon first waits for the next second. It fails as readConfig, openChains,
-// accessKeeper.replace, decider.test, daemon.open and daemon.listenAndServe do.
+// what decider.test prints. It fails as readConfig, openLedger, openDecider, decider.test and daemon.listenAndServe do.
 func start(words words, out, messages io.Writer) error {
 	signals := listenToSignals()
 	debug.SetGCPercent(gcPercent)
 	debug.SetMemoryLimit(gcOctets)
+	boundProcessors()
 	// (the main loop, which reads all lists, stays in this thread: malloc has a heap for each thread, so the memory of an old list is used again)
 	runtime.LockOSThread()
 	defer runtime.UnlockOSThread()
@@ -55,30 +55,47 @@ func start(words words, out, messages io.Writer) error {
 	if words.noCache {
 		*config.Cache = 0
 	}
-	if config.Signatures != nil && !words.isTest {
+	if words.isTest {
+		decider, err := openDecider(config, false)
+		if err != nil {
+			return err
+		}
+		return decider.test(out)
+	}
+	// (first of all: while another daemon writes this log, it grants requests, and keeps what a start would remove)
+	ledger, err := openLedger(config.Log, config.LogSync)
+	if err != nil {
+		return err
+	}
+	if config.Signatures != nil {
 		// (a signed request says in whole seconds when it was made, and one from before the start is refused. The daemon before this one may have granted
 		// one of this second, whose nonce is forgotten: so this daemon starts with the next second)
 		time.Sleep(time.Until(time.Now().Truncate(time.Second).Add(time.Second)))
 	}
-	decider := newDecider(config)
-	if decider.chains, err = openChains(config, decider.now(), !words.isTest); err != nil {
+	decider, err := openDecider(config, true)
+	if err != nil {
+		// (nothing was granted, so no line can be lost)
+		_ = ledger.close()
 		return err
 	}
-	// (the first reload: no certificate has ended before it, so it does not matter whether fewer may have)
-	if err := decider.keeper.reload(config, false, decider.now()); err != nil {
-		return err
-	}
-	if words.isTest {
-		return decider.test(out)
-	}
-	daemon := &daemon{decider: decider, signals: signals, orders: make(chan order), begun: decider.now()}
-	if err := daemon.open(out, messages); err != nil {
-		return err
-	}
+	daemon := &daemon{decider: decider, ledger: ledger, signals: signals, orders: make(chan order), begun: decider.now()}
+	daemon.startWriters(out, messages)
 	return daemon.listenAndServe()
 }
 
-// newDecider returns a decider for a configuration. Its caller opens `chains`, and reads the lists by keeper.reload. daemon.open sets logGrant and logOther.
+// openDecider returns a decider for a configuration, whose files it has read. mayRemove says whether files of sequences that clients left may be
+// removed. It fails as openChains and accessKeeper.reload do. daemon.startWriters sets logGrant and logOther.
+func openDecider(config *config, mayRemove bool) (*decider, error) {
+	decider := newDecider(config)
+	var err error
+	if decider.chains, err = openChains(config, decider.now(), mayRemove); err != nil {
+		return nil, err
+	}
+	// (the first reload: no certificate has ended before it, so it does not matter whether fewer may have)
+	return decider, decider.keeper.reload(config, false, decider.now())
+}
+
+// newDecider returns a decider for a configuration. Its caller opens `chains`, reads the lists by keeper.reload, and sets logGrant and logOther.
 func newDecider(config *config) *decider {
 	decider := &decider{
 		config: config, keys: newKeys(config.CertificateForm), cache: newCache(*config.Cache), sequences: newSequences(*config.Cache), now: time.Now,

@@ -114,6 +114,11 @@ func (w *writer) offer(line []byte) {
 	}
 }
 
+// lost returns how many lines of offer were dropped or could not be written.
+func (w *writer) lost() uint64 {
+	return w.failed.Load() + w.dropped.Load()
+}
+
 // add adds a line to the last batch that waits, or to a new one, and returns that batch. isKept says whether the line is still to be written when its
 // caller has stopped waiting: a batch has only lines with the same isKept. The mutex is held.
 func (w *writer) add(line []byte, isKept bool) *batch {
