@@ -130,8 +130,9 @@ class Command(OfStore):
         A server that only PGHOST names is found, and the name of a schema may be a reserved word of SQL."""
         for text in (b"(entry (public-key (test a)))", b"(entry (public-key (test a)) (tag (*))) x", b"", b"(acl)", b"(entry (tag (*)))"):
             self.spki_store(2, "add", self.file(text))
-        for text in (b"(3:acl" + ENTRY + b"(5:entry))", b"(3:acl(7:version1:1)" + ENTRY + b")"):
-            self.spki_store(2, "import", self.file(text))
+        with mock.patch.object(transfer, "MOST_AT_ONCE", 1):
+            for text in (b"(3:acl" + ENTRY + b"(5:entry))", b"(3:acl(7:version1:1)" + ENTRY + b")"):
+                self.spki_store(2, "import", self.file(text))
         self.spki_store(2, "end", "00")
         self.spki_store(2, "end", "00" * 32, "--remark", "\udcff")
         self.spki_store(3, "add", os.path.join(self.room, "none"))
