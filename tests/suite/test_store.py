@@ -34,7 +34,7 @@ needs.required(*needs.LIBRARY, *databases.NEEDED)
 os.environ["SPKI_LIBRARY"] = built.shared()
 import psycopg  # noqa: E402
 from psycopg import sql  # noqa: E402
-from spki_store_tool import commands, texts, transfer  # noqa: E402
+from spki_store_tool import commands, tables, texts, transfer  # noqa: E402
 from spki_store_tool.beats import Beats  # noqa: E402
 from spki_store_tool.tables import Store  # noqa: E402
 
@@ -161,12 +161,12 @@ class Command(OfStore):
         self.assertEqual(len(list(store.all())), 1)
 
     def test_import_goes_on_where_it_stopped(self) -> None:
-        """An import of a list of over 1 MiB is stopped in its third transaction. The next import adds the rest, and nothing twice."""
+        """An import of a list of over 1 MiB is stopped before its third transaction. The next import adds the rest, and nothing twice."""
         wanted = [key_entry(b"k%06d" % place, b"(8:packages4:read)") for place in range(23_000)]
-        path, stopping = self.file(b"(3:acl" + b"".join(wanted) + b")"), Stopping(self.server.address, self.schema)
-        self.addCleanup(stopping.close)
-        with self.assertRaises(ZeroDivisionError):
-            transfer.import_list(stopping, path, is_shown=False)
+        path = self.file(b"(3:acl" + b"".join(wanted) + b")")
+        stopping = mock.Mock(wraps=transfer.add_noted, side_effect=[mock.DEFAULT, mock.DEFAULT, ZeroDivisionError])
+        with mock.patch.object(transfer, "add_noted", stopping), self.assertRaises(ZeroDivisionError):
+            transfer.import_list(self.store, path, is_shown=False)
         (count,), = self.store.rows("SELECT count(*) FROM {entries}")
         self.assertEqual(count, 2 * transfer.MOST_AT_ONCE)
         self.assertEqual(self.spki_store(0, "import", path), f"entries added: {len(wanted) - count}, and {count} before\n")
@@ -175,10 +175,10 @@ class Command(OfStore):
         self.assertIn("wrong 0", self.spki_store(0, "check"))
 
     def test_two_imports_at_once(self) -> None:
-        """An import is refused if another import of the same list ends meanwhile: here that runs where the first one would add its entries."""
-        path = self.file(b"(3:acl" + ENTRY + b")")
-        with mock.patch.object(self.store, "add_many", lambda _: self.spki_store(0, "import", path)), self.assertRaises(texts.Wrong):
-            transfer.import_list(self.store, path, is_shown=False)
+        """A part of a list that another import of the same list has added meanwhile is refused."""
+        part = self.store, [ENTRY], bytes(32), 0, len(ENTRY), 1
+        transfer.add_noted(*part, is_done=False)
+        self.assertRaises(texts.Wrong, transfer.add_noted, *part, is_done=False)
         self.assertEqual([row.text for row in self.store.all()], [ENTRY])
 
     def rows_of_older_store(self) -> tuple[list[bytes], list[tuple[int, bytes, bytes]]]:
@@ -219,19 +219,6 @@ class Command(OfStore):
             self.store.connection.cursor().executemany("INSERT INTO entries VALUES (%s, %s, %s)", list(reversed(rows)))
             self.store.connection.execute(statement.replace("spki.", f"{self.schema}.").encode())
         self.check_entries(wanted)
-
-
-class Stopping(Store):
-    """A store whose third call of `add_many` raises an error once it is done, as if the program had ended there."""
-
-    count = 0
-
-    def add_many(self, texts: list[bytes]) -> None:
-        """Adds entries. The third call then raises ZeroDivisionError, which nothing else raises."""
-        super().add_many(texts)
-        self.count += 1
-        if self.count == 3:
-            raise ZeroDivisionError
 
 
 class Schema(OfStore):
@@ -321,7 +308,7 @@ class Schema(OfStore):
                      "UPDATE {entries} SET who = ''", "SELECT * FROM {imports}", "SELECT text FROM {changes}"):
             with self.subTest(text), self.assertRaises(psycopg.errors.InsufficientPrivilege):
                 ann.rows(text)
-        carl.add_many([ENTRY, ENTRY_OF_ZEROS])
+        transfer.add_noted(carl, [ENTRY, ENTRY_OF_ZEROS], bytes(32), 0, 1, 2, is_done=False)
         self.assertEqual([(who.rpartition("_")[2], change) for who, change in self.store.rows("SELECT who, what FROM {changes} ORDER BY number")],
                          [("ann", "add"), ("ben", "add"), ("ben", "remove"), ("carl", "remove"), ("carl", "add"), ("carl", "add")])
 
@@ -350,16 +337,14 @@ class Schema(OfStore):
         self.assertRaises(psycopg.Error, keep_text, 3, bytes(8192 + 1))  # (the table has texts of at most 8,192 octets)
 
     def test_changes_are_numbered_in_order(self) -> None:
-        """A change waits for the end of another transaction with a change, so no lower number appears after a higher one."""
-        other = Store(self.server.address, self.schema)
-        self.addCleanup(other.close)
-        with self.store.connection.transaction():
+        """A change waits for the end of another transaction with a change, so no lower number appears after a higher one. If that stays open, the
+        change fails, and `spki-store` says which process holds the store."""
+        words = ("end", "00" * 32)
+        with self.store.connection.transaction(), mock.patch.object(tables, "WAITS", 50):
             self.store.add(ENTRY)
-            with self.assertRaises(psycopg.errors.LockNotAvailable), other.connection.transaction():
-                other.rows("SET LOCAL lock_timeout = '50ms'")
-                other.add(ENTRY)
-        other.add(ENTRY)
-        self.assertEqual(self.store.rows("SELECT number FROM {changes} ORDER BY number"), [(1,), (2,)])
+            self.assertIn(f"process {self.store.connection.info.backend_pid} of 'postgres'", self.spki_store(3, *words))
+        self.spki_store(0, *words)
+        self.assertEqual(self.store.rows("SELECT number, what FROM {changes} ORDER BY number"), [(1, "add"), (2, "end")])
 
 
 # ---- the daemon

@@ -227,6 +227,10 @@ def main(words: Sequence[str] | None = None) -> int:
             if sys.stdout is not None:
                 sys.stdout.flush()
             return status
+        except psycopg.errors.LockNotAvailable:
+            held = ", ".join(f"process {number} of {account!r}" for number, account in store.holders()) or "it has ended now"
+            tell(f"the store is held by an open transaction, which an administrator can end by pg_terminate_backend: {held}")
+            return FAILED
         finally:
             store.close()
     # (UnicodeError: a word that is no text in this encoding)

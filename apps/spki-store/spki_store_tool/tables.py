@@ -32,15 +32,22 @@ ROLES = ("reader", "writer", "adder", "keeper")
 LENGTHS = (20, 32, 64)
 # How long a server may take to take a connection, in seconds, and to take what was sent, in milliseconds. These are settings of libpq.
 PATIENCE: dict[str, Any] = {"connect_timeout": 3, "tcp_user_timeout": 3000, "keepalives_idle": 3, "keepalives_interval": 1, "keepalives_count": 3}
-# How long a beat waits for another one, in milliseconds.
-BEAT_WAITS = 500
+# How long a beat waits for another one, and each other command for a transaction that holds what it needs, in milliseconds.
+BEAT_WAITS, WAITS = 500, 10_000
 # The rows that a reader of all rows has in memory.
 PAGE = 2000
 
 
 def connect_to(settings: str) -> psycopg.Connection[Any]:
-    """A new connection to one host, by its settings of libpq. Raises `psycopg.Error`."""
-    return psycopg.connect(settings, autocommit=True, fallback_application_name="spki-store")
+    """A new connection to one host, by its settings of libpq. A statement that waits longer than WAITS for another transaction raises
+    LockNotAvailable. Raises `psycopg.Error`."""
+    connection = psycopg.connect(settings, autocommit=True, fallback_application_name="spki-store")
+    try:
+        run_within(connection.pgconn, f"SET lock_timeout = {WAITS}".encode(), PATIENCE["connect_timeout"])
+    except psycopg.Error:
+        connection.close()
+        raise
+    return connection
 
 
 def run_within(connection: PGconn, text: bytes, seconds: float) -> bytes:
@@ -120,6 +127,15 @@ class Store:
         cursor = self.connection.execute(self.statement(text), values, binary=True)
         return cursor.fetchall() if cursor.description else []
 
+    def holders(self) -> list[tuple[int, str]]:
+        """The processes of the server, with their accounts, that a change may wait for: each has a transaction that has locked what a change needs,
+        and does not wait itself."""
+        return self.rows("SELECT DISTINCT a.pid, a.usename::text FROM pg_locks l JOIN pg_class c ON c.oid = l.relation"
+                         " JOIN pg_stat_activity a USING (pid) WHERE a.datname = current_database() AND a.pid <> pg_backend_pid()"
+                         " AND c.relnamespace = %s::regnamespace AND c.relname IN ('entries', 'ended', 'state')"
+                         " AND l.mode NOT IN ('AccessShareLock', 'ShareUpdateExclusiveLock')"
+                         " AND NOT EXISTS (SELECT FROM pg_locks w WHERE w.pid = l.pid AND NOT w.granted)", self.schema)
+
     def make(self) -> None:
         """Makes the schema, which must not be there yet, and those of its roles that are not there."""
         with open(SCHEMA, encoding="utf-8") as file:
@@ -141,10 +157,6 @@ class Store:
         """Adds an entry in canonical form behind the others. Returns its number, which is never used again."""
         (number,), = self.rows("INSERT INTO {entries} (text) VALUES (%s) RETURNING number", text)
         return int(number)
-
-    def add_many(self, texts: list[bytes]) -> None:
-        """Adds many entries in canonical form, by one statement. COPY would take less time, but the policies of schema.sql for rows forbid it."""
-        self.rows("INSERT INTO {entries} (text) SELECT * FROM unnest(%b::bytea[])", texts)
 
     def remove(self, number: int) -> bool:
         """Removes an entry by its number. Returns whether it was there, and this account may remove it."""

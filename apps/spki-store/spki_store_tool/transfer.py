@@ -57,9 +57,8 @@ def parts_of(text: bytes, begin: int) -> Iterator[tuple[list[bytes], int]]:
 
 def import_list(store: Store, path: str, is_shown: bool) -> tuple[int, int]:
     """Adds the entries of the list in the file at `path`. Returns how many were added now, and how many before, by an import of this list that did
-    not end. A transaction adds entries and notes how far the import is, so nothing is added twice. `is_shown` says whether to show the progress.
-    Raises Wrong for a list that was imported before or is being imported, or has something that is no entry: since all entries are tested first,
-    such a list adds nothing."""
+    not end. `is_shown` says whether to show the progress. Raises Wrong for a list that was imported before or is being imported, or has something
+    that is no entry: since all entries are tested first, such a list adds nothing."""
     text = read_list(path)
     digest, offset, before = digest_of(text), 0, 0
     # (at most one row: how far an import of this list is)
@@ -75,23 +74,26 @@ def import_list(store: Store, path: str, is_shown: bool) -> tuple[int, int]:
     count = before
     for texts, end in parts_of(text, offset):
         count += len(texts)
-        with store.connection.transaction():
-            store.add_many(texts)
-            note(store, digest, offset, end, count, is_done=False)
+        add_noted(store, texts, digest, offset, end, count, is_done=False)
         offset = end
         progress.show(end, count)
-    note(store, digest, offset, len(text), count, is_done=True)
+    add_noted(store, [], digest, offset, len(text), count, is_done=True)
     progress.show(len(text), count)
     return count - before, before
 
 
-def note(store: Store, digest: bytes, begin: int, end: int, entries: int, is_done: bool) -> None:
-    """Notes that the list with a digest was imported from the offset `begin` up to `end`, and has so many entries up to there. `is_done` says that it
-    is the whole list. Raises Wrong if the list is no longer imported just up to `begin`: another import of it has done that meanwhile."""
-    # (this makes the list's row, or changes it if it is at `begin`; otherwise no row is returned)
-    if not store.rows("INSERT INTO {imports} AS so_far (file, octets, entries, is_done) VALUES (%s, %s, %s, %s) ON CONFLICT (file) DO UPDATE"
-                      " SET octets = excluded.octets, entries = excluded.entries, is_done = excluded.is_done"
-                      " WHERE so_far.octets = %s AND NOT so_far.is_done RETURNING 1", digest, end, entries, is_done, begin):
+def add_noted(store: Store, texts: list[bytes], digest: bytes, begin: int, end: int, entries: int, is_done: bool) -> None:
+    """Adds entries in canonical form, and notes that the list with a digest was imported from the offset `begin` up to `end`, and has so many entries
+    up to there. `is_done` says that it is the whole list. One statement does both: so nothing is added twice, and a client that is stopped or lost
+    leaves no transaction open, for which all other changes would wait. Raises Wrong, and adds nothing, if the list is no longer imported just up to
+    `begin`: another import of it has done that meanwhile."""
+    # (this makes the list's row, or changes it if it is at `begin`; otherwise `noted` has no row. COPY would take less time, but the policies of
+    # schema.sql for rows forbid it)
+    if not store.rows("WITH noted AS (INSERT INTO {imports} AS so_far (file, octets, entries, is_done) VALUES (%s, %s, %s, %s)"
+                      " ON CONFLICT (file) DO UPDATE SET octets = excluded.octets, entries = excluded.entries, is_done = excluded.is_done"
+                      " WHERE so_far.octets = %s AND NOT so_far.is_done RETURNING 1),"
+                      " added AS (INSERT INTO {entries} (text) SELECT * FROM unnest(%b::bytea[]) WHERE EXISTS (SELECT FROM noted))"
+                      " SELECT 1 FROM noted", digest, end, entries, is_done, begin, texts):
         raise Wrong("this list is being imported by another process: nothing is added twice")
 
 
