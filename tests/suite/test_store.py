@@ -618,6 +618,14 @@ class Heartbeat(OfStore):
         self.assertGreater(self.last_beat(self.server), 0)
 
 
+    def test_a_beat_that_fails_waits(self) -> None:
+        """If no server takes a first beat, the heartbeat tries again after a pause."""
+        fails, pauses = mock.patch.object(Beats, "beat", side_effect=psycopg.OperationalError), mock.patch("time.sleep", side_effect=[None, EOFError])
+        with fails, pauses as sleep, contextlib.redirect_stderr(io.StringIO()), self.assertRaises(EOFError):
+            commands.beat(self.store, argparse.Namespace(times=0))
+        self.assertTrue(all(call.args[0] > 0 for call in sleep.call_args_list))
+
+
 class Replicated(OfServed):
     """Daemons at replicas: one of two takes the place of a primary that is killed, and HAProxy asks no daemon whose replica is behind."""
 

@@ -161,7 +161,8 @@ def beat(store: Store, given: argparse.Namespace) -> int:
             if first_line(why) != last_fault:
                 last_fault = first_line(why)
                 tell(last_fault)
-        time.sleep(max(0.0, pause - (time.monotonic() - begun)) if count != given.times else 0)
+        if not given.times or count < given.times:
+            time.sleep(max(0.0, pause - (time.monotonic() - begun)))
     return DONE
 
 
