@@ -592,13 +592,13 @@ class Heartbeat(OfStore):
             self.assertLess(time.monotonic() - promoted, 5)
 
     def test_a_silent_host_does_not_delay_the_beat(self) -> None:
-        """A host that accepts connections and answers nothing does not delay the beat to the other host by the 3 seconds that a connection may take.
-        libpq looks for the socket by its name, `.s.PGSQL.5432`."""
+        """A host that accepts connections and answers nothing does not delay the beat to the other host by the 3 seconds that a connection may take,
+        also if the other host is named twice. libpq looks for the socket by its name, `.s.PGSQL.5432`."""
         silent = socket.socket(socket.AF_UNIX)
         self.addCleanup(silent.close)
         silent.bind(os.path.join(self.room, ".s.PGSQL.5432"))
         silent.listen()
-        store = Store(f"host={self.server.folder},{self.room} user=postgres dbname=postgres", self.schema)
+        store = Store(f"host={self.server.folder},{self.room},{self.server.folder} user=postgres dbname=postgres", self.schema)
         self.addCleanup(store.close)
         beats = Beats(store)
         # (the silent host becomes the first one)

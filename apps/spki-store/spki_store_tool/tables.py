@@ -92,14 +92,14 @@ class Store:
         self.connect()
 
     def each_host(self) -> list[str]:
-        """The settings of libpq for each host of `settings` alone, in their order. What they do not say of PATIENCE is added."""
+        """The settings of libpq for each host of `settings` alone, in their order, once for each. What they do not say of PATIENCE is added."""
         settings = {**PATIENCE, **conninfo_to_dict(self.settings)}
         # (one port is for all hosts, otherwise each has its own)
         hosts, ports = (str(settings.get(name, "")).split(",") for name in ("host", "port"))
         addresses = [{"host": host, "port": ports[place % len(ports)]} for place, host in enumerate(hosts)]
         # (a host or port that is not given is left to libpq, which looks for a service and in the environment)
         given = [{name: value for name, value in address.items() if name in settings} for address in addresses]
-        return [make_conninfo(**{**settings, **address}) for address in given]
+        return list(dict.fromkeys(make_conninfo(**{**settings, **address}) for address in given))
 
     def connect(self) -> None:
         """Connects to the first of the hosts that accepts a connection, whose settings are then in `at`. A host that is cut off is given up after
