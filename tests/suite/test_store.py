@@ -258,6 +258,13 @@ class Schema(OfStore):
         self.assertEqual(self.spki_store(0, "diff", self.file(b"(3:acl" + entry + b")")), "entries that differ: 0\n")
         self.assertEqual(self.store.entries_for([hostile]), [])
 
+    def test_functions_of_others(self) -> None:
+        """A function of another schema that fits better than one of the system is not called: somebody else may have made it."""
+        with self.store.connection.transaction(force_rollback=True):
+            self.store.connection.execute("CREATE FUNCTION public.unnest(bytea[]) RETURNS SETOF bytea LANGUAGE sql AS 'SELECT NULL::bytea'")
+            transfer.add_noted(self.store, [ENTRY], bytes(32), 0, 1, 1, is_done=False)
+            self.assertEqual([row.text for row in self.store.all()], [ENTRY])
+
     def test_row_that_is_no_entry(self) -> None:
         """`check` finds an entry that the constraints of the database let pass: here one without its tag."""
         self.store.rows("INSERT INTO {entries} (text) VALUES (%s), (%s)", ENTRY, ENTRY.replace(b"(3:tag(1:*))", b""))

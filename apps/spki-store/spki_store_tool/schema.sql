@@ -150,7 +150,7 @@ CREATE TRIGGER note_ended AFTER INSERT ON @SCHEMA@.ended REFERENCING NEW TABLE A
     FOR EACH STATEMENT EXECUTE FUNCTION @SCHEMA@.note_change();
 
 -- Refuses a statement, whoever runs it: what the triggers below are for is never changed.
-CREATE FUNCTION @SCHEMA@.refuse_change() RETURNS trigger LANGUAGE plpgsql AS $$
+CREATE FUNCTION @SCHEMA@.refuse_change() RETURNS trigger LANGUAGE plpgsql SET search_path = pg_catalog, pg_temp AS $$
 BEGIN
     RAISE insufficient_privilege USING MESSAGE = format('%s of %s is refused', TG_OP, TG_TABLE_NAME);
 END $$;

@@ -39,11 +39,12 @@ PAGE = 2000
 
 
 def connect_to(settings: str) -> psycopg.Connection[Any]:
-    """A new connection to one host, by its settings of libpq. A statement that waits longer than WAITS for another transaction raises
-    LockNotAvailable. Raises `psycopg.Error`."""
+    """A new connection to one host, by its settings of libpq. Its statements call functions of the system alone: one of another schema that fits the
+    arguments better may be of somebody who can only read, and would run with the rights of this account. A statement that waits longer than WAITS for
+    another transaction raises LockNotAvailable. Raises `psycopg.Error`."""
     connection = psycopg.connect(settings, autocommit=True, fallback_application_name="spki-store")
     try:
-        run_within(connection.pgconn, f"SET lock_timeout = {WAITS}".encode(), PATIENCE["connect_timeout"])
+        run_within(connection.pgconn, f"SET search_path = pg_catalog; SET lock_timeout = {WAITS}".encode(), PATIENCE["connect_timeout"])
     except psycopg.Error:
         connection.close()
         raise
