@@ -182,9 +182,9 @@ class Command(OfStore):
         self.assertEqual([row.text for row in self.store.all()], [ENTRY])
 
     def rows_of_older_store(self) -> tuple[list[bytes], list[tuple[int, bytes, bytes]]]:
-        """Entries, one of them twice, and the rows that the table of `examples/database` in version 0.1.0 had for them: a number, a principal and a
-        text each. The numbers have gaps."""
-        wanted = [key_entry(b"a\0\n'", b"(8:packages4:read)"), ENTRY_OF_ZEROS, ENTRY, key_entry(bytes(range(256))), ENTRY]
+        """Entries, one of them twice and one long, and the rows that the table of `examples/database` in version 0.1.0 had for them: a number, a
+        principal and a text each. The numbers have gaps."""
+        wanted = [key_entry(b"a\0\n'"), ENTRY_OF_ZEROS, ENTRY, key_entry(bytes(range(256))), ENTRY, ENTRY.replace(b"1:a", 100_000 * b"1:a")]
         return wanted, [(2 * place + 1, texts.principal_of(text), text) for place, text in enumerate(wanted)]
 
     def check_entries(self, wanted: list[bytes]) -> None:
@@ -207,12 +207,12 @@ class Command(OfStore):
         self.check_entries(wanted)
 
     def test_older_store_in_postgresql(self) -> None:
-        """The entries of the example of version 0.1.0 are taken over from PostgreSQL, by the statement of the page."""
+        """The entries of the example of version 0.1.0 are taken over from PostgreSQL, by the statement of the page, in time for a long one."""
         wanted, rows = self.rows_of_older_store()
         statement, = re.findall(r"`(INSERT INTO spki\.entries [^`]*)`", text_of("apps/spki-store/README.md"))
         old = f"{self.schema}_old"
         with self.store.connection.transaction():
-            for text in (f"CREATE SCHEMA {old}", f"SET LOCAL search_path TO {old}",
+            for text in (f"CREATE SCHEMA {old}", f"SET LOCAL search_path TO {old}", "SET LOCAL statement_timeout TO '10s'",
                          "CREATE TABLE entries (number bigserial PRIMARY KEY, principal bytea NOT NULL, text bytea NOT NULL)"):
                 self.store.connection.execute(text.encode())
             # (reversed, since the numbers say the order)
@@ -623,7 +623,6 @@ class Heartbeat(OfStore):
         waits_for("a beat is made at the other host", is_made)
         self.assertLess(time.monotonic() - begun, 3)
         self.assertGreater(self.last_beat(self.server), 0)
-
 
     def test_a_beat_that_fails_waits(self) -> None:
         """If no server takes a first beat, the heartbeat tries again after a pause."""
