@@ -167,6 +167,10 @@ class Store:
         """Ends a certificate, by its SHA-256 digest. Returns whether it had not ended before."""
         return bool(self.rows("INSERT INTO {ended} (certificate, remark) VALUES (%s, %s) ON CONFLICT DO NOTHING RETURNING 1", certificate, remark))
 
+    def has_ended(self, certificate: bytes) -> bool:
+        """Whether a certificate has ended, by its SHA-256 digest."""
+        return bool(self.rows("SELECT 1 FROM {ended} WHERE certificate = %s", certificate))
+
     def beat(self, seconds: float = 3.0) -> int:
         """Increases the number of the heartbeat, and returns it. Raises OperationalError if that fails, or takes longer than so many seconds. It is
         not cancelled then: a change that waits for a replica would be committed without the replica. Such a beat has the lock of the row, so further
