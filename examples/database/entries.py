@@ -4,8 +4,8 @@ The first certificate of a question has one issuer key, and only an entry whose 
 request. Where no certificate is shown it is the client's key. So a decision reads these rows, in the order of their numbers, and decides by a guard
 of them. The answer is that of the guard of all rows: this is a theorem about access lists (docs/OPERATING.md, "A list of millions").
 
-This service reads the server that it is given, and keeps nothing: on the primary a removed entry grants only in questions already under way. It does
-not look at the heartbeat, so it must not read a replica. What psycopg raises grants nothing."""
+This service reads the server that it is given, and keeps nothing: on the primary a removed entry, and a certificate that has ended early, grant only
+in questions already under way. It does not look at the heartbeat, so it must not read a replica. What psycopg raises grants nothing."""
 import hashlib
 
 import spki
@@ -55,7 +55,8 @@ def guard_of(texts, policy=spki.Policy.STRICT, limits=LIMITS):
 
 class Service:
     """Answers questions by the entries of `store`: an object whose method `entries_for` returns the number and the text of each entry that it finds
-    by the digests of a key, as `digests_of` returns them. `spki_store_tool.tables.Store` is one."""
+    by the digests of a key, as `digests_of` returns them. Its method `has_ended` says whether a certificate has ended early, by the SHA-256 digest of
+    its canonical form. `spki_store_tool.tables.Store` is one."""
 
     def __init__(self, store, policy=spki.Policy.STRICT, limits=LIMITS):
         self.store, self.policy, self.limits = store, policy, limits
@@ -67,13 +68,18 @@ class Service:
 
         Raises `spki.Refused` if a part of the question cannot be read, or the entries found have over 1 MiB together, and what psycopg raises if
         the database does not answer. `verify(signature)`, which returns whether a signature is valid, is called once for each signature, in order, up
-        to the first that is not valid; and not at all if the entries found grant nothing, whatever is valid.
+        to the first that is not valid or whose certificate has ended; and not at all if the entries found grant nothing, whatever is valid.
         """
+        def counts(signature):
+            """Whether a signature is valid and its certificate has not ended. This is read after the entries, and what has ended stays so: thus a yes
+            is that of the whole list and of all that had ended when the entries were read."""
+            return not self.store.has_ended(hashlib.sha256(signature.message).digest()) and verify(signature)
+
         # (a guard without entries reads the parts, and lists the signatures. If certificates are shown and none is listed, the first has a fault,
         # such as another digest: then no entry grants, so any rows may be read)
         with self.no_entries.ask(question) as asked:
             first = next(iter(asked), None)
         rows = self.store.entries_for(digests_of(first.key if first else spki.canonical(question.key.text)))
         with guard_of([text for _, text in rows], self.policy, self.limits) as guard:
-            decision = guard.decide(question, verify)
+            decision = guard.decide(question, counts)
         return rows[decision.entry - 1][0] if decision else None

@@ -2,7 +2,8 @@
 """A service whose access list is a table of a database: its entries come and go while it answers.
 
 Alice has an entry, by the hash of her key, and passes a part of her right on to Bob. All sign requests by the code of examples/signed/run.py. Bob
-asks again after the entry is removed, and after it is added again. The keys need `cryptography` (Debian: python3-cryptography).
+asks again after the entry is removed, after it is added again, and after Alice's certificate is ended early. The keys need `cryptography` (Debian:
+python3-cryptography).
 
 The store is in the schema `spki_story` of the PostgreSQL whose settings of libpq are given. It must not be there, and is dropped at the end. Needs
 psycopg (Debian: python3-psycopg). Build the program and the library first (`rt run` in crates/spki, crates/spki_c/archive.py).
@@ -10,6 +11,7 @@ psycopg (Debian: python3-psycopg). Build the program and the library first (`rt 
 Prints what it does. The last line, 'N passed, M failed', counts the answers that are as wanted: the tests read it.
 Usage: examples/database/story.py SETTINGS        as 'host=/run/postgresql dbname=acl'
 """
+import hashlib
 import os
 import sys
 from datetime import datetime, timezone
@@ -64,6 +66,8 @@ def answers(store):
     yield asks("Bob reads, and Alice's entry is removed", bob, sequence, READ, None)
     second = store.add(entry_text)
     yield asks("Bob reads, and Alice has an entry again", bob, sequence, READ, second)
+    store.end(hashlib.sha256(spki.canonical(to_bob.encode())).digest(), "")
+    yield asks("Bob reads, and Alice's certificate has ended", bob, sequence, READ, None)
     store.remove(second)
 
 

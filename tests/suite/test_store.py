@@ -34,7 +34,7 @@ needs.required(*needs.LIBRARY, *databases.NEEDED)
 os.environ["SPKI_LIBRARY"] = built.shared()
 import psycopg  # noqa: E402
 from psycopg import sql  # noqa: E402
-from spki_store_tool import commands, texts, transfer  # noqa: E402
+from spki_store_tool import commands, tables, texts, transfer  # noqa: E402
 from spki_store_tool.beats import Beats  # noqa: E402
 from spki_store_tool.tables import Store  # noqa: E402
 
@@ -130,8 +130,9 @@ class Command(OfStore):
         A server that only PGHOST names is found, and the name of a schema may be a reserved word of SQL."""
         for text in (b"(entry (public-key (test a)))", b"(entry (public-key (test a)) (tag (*))) x", b"", b"(acl)", b"(entry (tag (*)))"):
             self.spki_store(2, "add", self.file(text))
-        for text in (b"(3:acl" + ENTRY + b"(5:entry))", b"(3:acl(7:version1:1)" + ENTRY + b")"):
-            self.spki_store(2, "import", self.file(text))
+        with mock.patch.object(transfer, "MOST_AT_ONCE", 1):
+            for text in (b"(3:acl" + ENTRY + b"(5:entry))", b"(3:acl(7:version1:1)" + ENTRY + b")"):
+                self.spki_store(2, "import", self.file(text))
         self.spki_store(2, "end", "00")
         self.spki_store(2, "end", "00" * 32, "--remark", "\udcff")
         self.spki_store(3, "add", os.path.join(self.room, "none"))
@@ -160,12 +161,12 @@ class Command(OfStore):
         self.assertEqual(len(list(store.all())), 1)
 
     def test_import_goes_on_where_it_stopped(self) -> None:
-        """An import of a list of over 1 MiB is stopped in its third transaction. The next import adds the rest, and nothing twice."""
+        """An import of a list of over 1 MiB is stopped before its third transaction. The next import adds the rest, and nothing twice."""
         wanted = [key_entry(b"k%06d" % place, b"(8:packages4:read)") for place in range(23_000)]
-        path, stopping = self.file(b"(3:acl" + b"".join(wanted) + b")"), Stopping(self.server.address, self.schema)
-        self.addCleanup(stopping.close)
-        with self.assertRaises(ZeroDivisionError):
-            transfer.import_list(stopping, path, is_shown=False)
+        path = self.file(b"(3:acl" + b"".join(wanted) + b")")
+        stopping = mock.Mock(wraps=transfer.add_noted, side_effect=[mock.DEFAULT, mock.DEFAULT, ZeroDivisionError])
+        with mock.patch.object(transfer, "add_noted", stopping), self.assertRaises(ZeroDivisionError):
+            transfer.import_list(self.store, path, is_shown=False)
         (count,), = self.store.rows("SELECT count(*) FROM {entries}")
         self.assertEqual(count, 2 * transfer.MOST_AT_ONCE)
         self.assertEqual(self.spki_store(0, "import", path), f"entries added: {len(wanted) - count}, and {count} before\n")
@@ -174,16 +175,16 @@ class Command(OfStore):
         self.assertIn("wrong 0", self.spki_store(0, "check"))
 
     def test_two_imports_at_once(self) -> None:
-        """An import is refused if another import of the same list ends meanwhile: here that runs where the first one would add its entries."""
-        path = self.file(b"(3:acl" + ENTRY + b")")
-        with mock.patch.object(self.store, "add_many", lambda _: self.spki_store(0, "import", path)), self.assertRaises(texts.Wrong):
-            transfer.import_list(self.store, path, is_shown=False)
+        """A part of a list that another import of the same list has added meanwhile is refused."""
+        part = self.store, [ENTRY], bytes(32), 0, len(ENTRY), 1
+        transfer.add_noted(*part, is_done=False)
+        self.assertRaises(texts.Wrong, transfer.add_noted, *part, is_done=False)
         self.assertEqual([row.text for row in self.store.all()], [ENTRY])
 
     def rows_of_older_store(self) -> tuple[list[bytes], list[tuple[int, bytes, bytes]]]:
-        """Entries, one of them twice, and the rows that the table of `examples/database` in version 0.1.0 had for them: a number, a principal and a
-        text each. The numbers have gaps."""
-        wanted = [key_entry(b"a\0\n'", b"(8:packages4:read)"), ENTRY_OF_ZEROS, ENTRY, key_entry(bytes(range(256))), ENTRY]
+        """Entries, one of them twice and one long, and the rows that the table of `examples/database` in version 0.1.0 had for them: a number, a
+        principal and a text each. The numbers have gaps."""
+        wanted = [key_entry(b"a\0\n'"), ENTRY_OF_ZEROS, ENTRY, key_entry(bytes(range(256))), ENTRY, ENTRY.replace(b"1:a", 100_000 * b"1:a")]
         return wanted, [(2 * place + 1, texts.principal_of(text), text) for place, text in enumerate(wanted)]
 
     def check_entries(self, wanted: list[bytes]) -> None:
@@ -206,31 +207,18 @@ class Command(OfStore):
         self.check_entries(wanted)
 
     def test_older_store_in_postgresql(self) -> None:
-        """The entries of the example of version 0.1.0 are taken over from PostgreSQL, by the statement of the page."""
+        """The entries of the example of version 0.1.0 are taken over from PostgreSQL, by the statement of the page, in time for a long one."""
         wanted, rows = self.rows_of_older_store()
         statement, = re.findall(r"`(INSERT INTO spki\.entries [^`]*)`", text_of("apps/spki-store/README.md"))
         old = f"{self.schema}_old"
         with self.store.connection.transaction():
-            for text in (f"CREATE SCHEMA {old}", f"SET LOCAL search_path TO {old}",
+            for text in (f"CREATE SCHEMA {old}", f"SET LOCAL search_path TO {old}", "SET LOCAL statement_timeout TO '10s'",
                          "CREATE TABLE entries (number bigserial PRIMARY KEY, principal bytea NOT NULL, text bytea NOT NULL)"):
                 self.store.connection.execute(text.encode())
             # (reversed, since the numbers say the order)
             self.store.connection.cursor().executemany("INSERT INTO entries VALUES (%s, %s, %s)", list(reversed(rows)))
             self.store.connection.execute(statement.replace("spki.", f"{self.schema}.").encode())
         self.check_entries(wanted)
-
-
-class Stopping(Store):
-    """A store whose third call of `add_many` raises an error once it is done, as if the program had ended there."""
-
-    count = 0
-
-    def add_many(self, texts: list[bytes]) -> None:
-        """Adds entries. The third call then raises ZeroDivisionError, which nothing else raises."""
-        super().add_many(texts)
-        self.count += 1
-        if self.count == 3:
-            raise ZeroDivisionError
 
 
 class Schema(OfStore):
@@ -269,6 +257,13 @@ class Schema(OfStore):
         self.assertEqual(self.store.rows("SELECT remark FROM {ended}"), [(hostile.decode(),)])
         self.assertEqual(self.spki_store(0, "diff", self.file(b"(3:acl" + entry + b")")), "entries that differ: 0\n")
         self.assertEqual(self.store.entries_for([hostile]), [])
+
+    def test_functions_of_others(self) -> None:
+        """A function of another schema that fits better than one of the system is not called: somebody else may have made it."""
+        with self.store.connection.transaction(force_rollback=True):
+            self.store.connection.execute("CREATE FUNCTION public.unnest(bytea[]) RETURNS SETOF bytea LANGUAGE sql AS 'SELECT NULL::bytea'")
+            transfer.add_noted(self.store, [ENTRY], bytes(32), 0, 1, 1, is_done=False)
+            self.assertEqual([row.text for row in self.store.all()], [ENTRY])
 
     def test_row_that_is_no_entry(self) -> None:
         """`check` finds an entry that the constraints of the database let pass: here one without its tag."""
@@ -320,7 +315,7 @@ class Schema(OfStore):
                      "UPDATE {entries} SET who = ''", "SELECT * FROM {imports}", "SELECT text FROM {changes}"):
             with self.subTest(text), self.assertRaises(psycopg.errors.InsufficientPrivilege):
                 ann.rows(text)
-        carl.add_many([ENTRY, ENTRY_OF_ZEROS])
+        transfer.add_noted(carl, [ENTRY, ENTRY_OF_ZEROS], bytes(32), 0, 1, 2, is_done=False)
         self.assertEqual([(who.rpartition("_")[2], change) for who, change in self.store.rows("SELECT who, what FROM {changes} ORDER BY number")],
                          [("ann", "add"), ("ben", "add"), ("ben", "remove"), ("carl", "remove"), ("carl", "add"), ("carl", "add")])
 
@@ -349,16 +344,14 @@ class Schema(OfStore):
         self.assertRaises(psycopg.Error, keep_text, 3, bytes(8192 + 1))  # (the table has texts of at most 8,192 octets)
 
     def test_changes_are_numbered_in_order(self) -> None:
-        """A change waits for the end of another transaction with a change, so no lower number appears after a higher one."""
-        other = Store(self.server.address, self.schema)
-        self.addCleanup(other.close)
-        with self.store.connection.transaction():
+        """A change waits for the end of another transaction with a change, so no lower number appears after a higher one. If that stays open, the
+        change fails, and `spki-store` says which process holds the store."""
+        words = ("end", "00" * 32)
+        with self.store.connection.transaction(), mock.patch.object(tables, "WAITS", 50):
             self.store.add(ENTRY)
-            with self.assertRaises(psycopg.errors.LockNotAvailable), other.connection.transaction():
-                other.rows("SET LOCAL lock_timeout = '50ms'")
-                other.add(ENTRY)
-        other.add(ENTRY)
-        self.assertEqual(self.store.rows("SELECT number FROM {changes} ORDER BY number"), [(1,), (2,)])
+            self.assertIn(f"process {self.store.connection.info.backend_pid} of 'postgres'", self.spki_store(3, *words))
+        self.spki_store(0, *words)
+        self.assertEqual(self.store.rows("SELECT number, what FROM {changes} ORDER BY number"), [(1, "add"), (2, "end")])
 
 
 # ---- the daemon
@@ -606,13 +599,13 @@ class Heartbeat(OfStore):
             self.assertLess(time.monotonic() - promoted, 5)
 
     def test_a_silent_host_does_not_delay_the_beat(self) -> None:
-        """A host that accepts connections and answers nothing does not delay the beat to the other host by the 3 seconds that a connection may take.
-        libpq looks for the socket by its name, `.s.PGSQL.5432`."""
+        """A host that accepts connections and answers nothing does not delay the beat to the other host by the 3 seconds that a connection may take,
+        also if the other host is named twice. libpq looks for the socket by its name, `.s.PGSQL.5432`."""
         silent = socket.socket(socket.AF_UNIX)
         self.addCleanup(silent.close)
         silent.bind(os.path.join(self.room, ".s.PGSQL.5432"))
         silent.listen()
-        store = Store(f"host={self.server.folder},{self.room} user=postgres dbname=postgres", self.schema)
+        store = Store(f"host={self.server.folder},{self.room},{self.server.folder} user=postgres dbname=postgres", self.schema)
         self.addCleanup(store.close)
         beats = Beats(store)
         # (the silent host becomes the first one)
@@ -630,6 +623,13 @@ class Heartbeat(OfStore):
         waits_for("a beat is made at the other host", is_made)
         self.assertLess(time.monotonic() - begun, 3)
         self.assertGreater(self.last_beat(self.server), 0)
+
+    def test_a_beat_that_fails_waits(self) -> None:
+        """If no server takes a first beat, the heartbeat tries again after a pause."""
+        fails, pauses = mock.patch.object(Beats, "beat", side_effect=psycopg.OperationalError), mock.patch("time.sleep", side_effect=[None, EOFError])
+        with fails, pauses as sleep, contextlib.redirect_stderr(io.StringIO()), self.assertRaises(EOFError):
+            commands.beat(self.store, argparse.Namespace(times=0))
+        self.assertTrue(all(call.args[0] > 0 for call in sleep.call_args_list))
 
 
 class Replicated(OfServed):

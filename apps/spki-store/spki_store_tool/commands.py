@@ -161,7 +161,8 @@ def beat(store: Store, given: argparse.Namespace) -> int:
             if first_line(why) != last_fault:
                 last_fault = first_line(why)
                 tell(last_fault)
-        time.sleep(max(0.0, pause - (time.monotonic() - begun)) if count != given.times else 0)
+        if not given.times or count < given.times:
+            time.sleep(max(0.0, pause - (time.monotonic() - begun)))
     return DONE
 
 
@@ -227,6 +228,10 @@ def main(words: Sequence[str] | None = None) -> int:
             if sys.stdout is not None:
                 sys.stdout.flush()
             return status
+        except psycopg.errors.LockNotAvailable:
+            held = ", ".join(f"process {number} of {account!r}" for number, account in store.holders()) or "it has ended now"
+            tell(f"the store is held by an open transaction, which an administrator can end by pg_terminate_backend: {held}")
+            return FAILED
         finally:
             store.close()
     # (UnicodeError: a word that is no text in this encoding)

@@ -9,12 +9,14 @@ CREATE SCHEMA @SCHEMA@;
 CREATE FUNCTION @SCHEMA@.principal_of(text bytea) RETURNS bytea LANGUAGE plpgsql IMMUTABLE STRICT PARALLEL SAFE
 SET search_path = pg_catalog, pg_temp AS $$
 DECLARE
-    most CONSTANT integer := octet_length(text);
-    is_name CONSTANT boolean := substring(text FROM 9 FOR 7) = '(4:name';
+    -- A copy: the text of a row may be compressed, and would be unpacked for each octet that is read.
+    entry CONSTANT bytea := text || ''::bytea;
+    most CONSTANT integer := octet_length(entry);
+    is_name CONSTANT boolean := substring(entry FROM 9 FOR 7) = '(4:name';
     -- The offset of the principal, counted from 0 as `at`, and how many lists are open around it.
     principal_at CONSTANT integer := CASE WHEN is_name THEN 15 ELSE 8 END;
     lists_around CONSTANT integer := CASE WHEN is_name THEN 2 ELSE 1 END;
-    is_hash CONSTANT boolean := substring(text FROM principal_at + 1 FOR 7) = '(4:hash';
+    is_hash CONSTANT boolean := substring(entry FROM principal_at + 1 FOR 7) = '(4:hash';
     at integer := 0;
     depth integer := 0;
     -- The strings of the hash so far: `hash`, the algorithm, the digest. One in brackets, a display hint, does not count.
@@ -25,11 +27,11 @@ DECLARE
     -- The result, as soon as it is known.
     found bytea;
 BEGIN
-    IF substring(text FROM 1 FOR 8) <> '(5:entry' OR NOT (is_hash OR substring(text FROM principal_at + 1 FOR 14) = '(10:public-key') THEN
+    IF substring(entry FROM 1 FOR 8) <> '(5:entry' OR NOT (is_hash OR substring(entry FROM principal_at + 1 FOR 14) = '(10:public-key') THEN
         RAISE check_violation USING MESSAGE = 'the text is no entry in canonical form for a key, a hash or a name';
     END IF;
     WHILE at < most LOOP
-        octet := get_byte(text, at);
+        octet := get_byte(entry, at);
         IF octet = 40 THEN
             depth := depth + 1;
         ELSIF octet = 41 THEN
@@ -38,7 +40,7 @@ BEGIN
                 IF is_hash THEN
                     RAISE check_violation USING MESSAGE = 'the hash has no digest';
                 END IF;
-                found := sha256(substring(text FROM principal_at + 1 FOR at - principal_at + 1));
+                found := sha256(substring(entry FROM principal_at + 1 FOR at - principal_at + 1));
             END IF;
             EXIT WHEN depth = 0;
         ELSIF octet = 91 OR octet = 93 THEN
@@ -52,12 +54,12 @@ BEGIN
                 END IF;
                 length := 10 * length + octet - 48;
                 at := at + 1;
-                octet := get_byte(text, at);
+                octet := get_byte(entry, at);
             END LOOP;
             IF is_hash AND found IS NULL AND at > principal_at AND NOT is_hint THEN
                 strings := strings + 1;
                 IF strings = 3 THEN
-                    found := substring(text FROM at + 2 FOR length);
+                    found := substring(entry FROM at + 2 FOR length);
                 END IF;
             END IF;
             at := at + length;
@@ -150,7 +152,7 @@ CREATE TRIGGER note_ended AFTER INSERT ON @SCHEMA@.ended REFERENCING NEW TABLE A
     FOR EACH STATEMENT EXECUTE FUNCTION @SCHEMA@.note_change();
 
 -- Refuses a statement, whoever runs it: what the triggers below are for is never changed.
-CREATE FUNCTION @SCHEMA@.refuse_change() RETURNS trigger LANGUAGE plpgsql AS $$
+CREATE FUNCTION @SCHEMA@.refuse_change() RETURNS trigger LANGUAGE plpgsql SET search_path = pg_catalog, pg_temp AS $$
 BEGIN
     RAISE insufficient_privilege USING MESSAGE = format('%s of %s is refused', TG_OP, TG_TABLE_NAME);
 END $$;

@@ -32,15 +32,23 @@ ROLES = ("reader", "writer", "adder", "keeper")
 LENGTHS = (20, 32, 64)
 # How long a server may take to take a connection, in seconds, and to take what was sent, in milliseconds. These are settings of libpq.
 PATIENCE: dict[str, Any] = {"connect_timeout": 3, "tcp_user_timeout": 3000, "keepalives_idle": 3, "keepalives_interval": 1, "keepalives_count": 3}
-# How long a beat waits for another one, in milliseconds.
-BEAT_WAITS = 500
+# How long a beat waits for another one, and each other command for a transaction that holds what it needs, in milliseconds.
+BEAT_WAITS, WAITS = 500, 10_000
 # The rows that a reader of all rows has in memory.
 PAGE = 2000
 
 
 def connect_to(settings: str) -> psycopg.Connection[Any]:
-    """A new connection to one host, by its settings of libpq. Raises `psycopg.Error`."""
-    return psycopg.connect(settings, autocommit=True, fallback_application_name="spki-store")
+    """A new connection to one host, by its settings of libpq. Its statements call functions of the system alone: one of another schema that fits the
+    arguments better may be of somebody who can only read, and would run with the rights of this account. A statement that waits longer than WAITS for
+    another transaction raises LockNotAvailable. Raises `psycopg.Error`."""
+    connection = psycopg.connect(settings, autocommit=True, fallback_application_name="spki-store")
+    try:
+        run_within(connection.pgconn, f"SET search_path = pg_catalog; SET lock_timeout = {WAITS}".encode(), PATIENCE["connect_timeout"])
+    except psycopg.Error:
+        connection.close()
+        raise
+    return connection
 
 
 def run_within(connection: PGconn, text: bytes, seconds: float) -> bytes:
@@ -85,14 +93,14 @@ class Store:
         self.connect()
 
     def each_host(self) -> list[str]:
-        """The settings of libpq for each host of `settings` alone, in their order. What they do not say of PATIENCE is added."""
+        """The settings of libpq for each host of `settings` alone, in their order, once for each. What they do not say of PATIENCE is added."""
         settings = {**PATIENCE, **conninfo_to_dict(self.settings)}
         # (one port is for all hosts, otherwise each has its own)
         hosts, ports = (str(settings.get(name, "")).split(",") for name in ("host", "port"))
         addresses = [{"host": host, "port": ports[place % len(ports)]} for place, host in enumerate(hosts)]
         # (a host or port that is not given is left to libpq, which looks for a service and in the environment)
         given = [{name: value for name, value in address.items() if name in settings} for address in addresses]
-        return [make_conninfo(**{**settings, **address}) for address in given]
+        return list(dict.fromkeys(make_conninfo(**{**settings, **address}) for address in given))
 
     def connect(self) -> None:
         """Connects to the first of the hosts that accepts a connection, whose settings are then in `at`. A host that is cut off is given up after
@@ -120,6 +128,15 @@ class Store:
         cursor = self.connection.execute(self.statement(text), values, binary=True)
         return cursor.fetchall() if cursor.description else []
 
+    def holders(self) -> list[tuple[int, str]]:
+        """The processes of the server, with their accounts, that a change may wait for: each has a transaction that has locked what a change needs,
+        and does not wait itself."""
+        return self.rows("SELECT DISTINCT a.pid, a.usename::text FROM pg_locks l JOIN pg_class c ON c.oid = l.relation"
+                         " JOIN pg_stat_activity a USING (pid) WHERE a.datname = current_database() AND a.pid <> pg_backend_pid()"
+                         " AND c.relnamespace = %s::regnamespace AND c.relname IN ('entries', 'ended', 'state')"
+                         " AND l.mode NOT IN ('AccessShareLock', 'ShareUpdateExclusiveLock')"
+                         " AND NOT EXISTS (SELECT FROM pg_locks w WHERE w.pid = l.pid AND NOT w.granted)", self.schema)
+
     def make(self) -> None:
         """Makes the schema, which must not be there yet, and those of its roles that are not there."""
         with open(SCHEMA, encoding="utf-8") as file:
@@ -142,10 +159,6 @@ class Store:
         (number,), = self.rows("INSERT INTO {entries} (text) VALUES (%s) RETURNING number", text)
         return int(number)
 
-    def add_many(self, texts: list[bytes]) -> None:
-        """Adds many entries in canonical form, by one statement. COPY would take less time, but the policies of schema.sql for rows forbid it."""
-        self.rows("INSERT INTO {entries} (text) SELECT * FROM unnest(%b::bytea[])", texts)
-
     def remove(self, number: int) -> bool:
         """Removes an entry by its number. Returns whether it was there, and this account may remove it."""
         return bool(self.rows("DELETE FROM {entries} WHERE number = %s RETURNING number", number))
@@ -153,6 +166,10 @@ class Store:
     def end(self, certificate: bytes, remark: str) -> bool:
         """Ends a certificate, by its SHA-256 digest. Returns whether it had not ended before."""
         return bool(self.rows("INSERT INTO {ended} (certificate, remark) VALUES (%s, %s) ON CONFLICT DO NOTHING RETURNING 1", certificate, remark))
+
+    def has_ended(self, certificate: bytes) -> bool:
+        """Whether a certificate has ended, by its SHA-256 digest."""
+        return bool(self.rows("SELECT 1 FROM {ended} WHERE certificate = %s", certificate))
 
     def beat(self, seconds: float = 3.0) -> int:
         """Increases the number of the heartbeat, and returns it. Raises OperationalError if that fails, or takes longer than so many seconds. It is

@@ -5,7 +5,6 @@ from __future__ import annotations
 
 import contextlib
 import hashlib
-import mmap
 import os
 from collections.abc import Iterable, Iterator
 from typing import TypeVar
@@ -24,7 +23,7 @@ class Wrong(Exception):
     """A text, a row of the database or a word of the command line is refused. The message says why."""
 
 
-def end_of(text: mmap.mmap | bytes, at: int) -> int:
+def end_of(text: bytes, at: int) -> int:
     """The offset behind the list in canonical form that begins at an offset. Raises Wrong if the list is not whole. Only parentheses and lengths are
     looked at: whether a list begins there, and whether the library reads it, is not tested."""
     # (how many lists are open; a string is passed by its length)
@@ -50,7 +49,7 @@ def end_of(text: mmap.mmap | bytes, at: int) -> int:
     return at
 
 
-def entries_in(text: mmap.mmap | bytes, begin: int = 0) -> Iterator[tuple[bytes, int]]:
+def entries_in(text: bytes, begin: int = 0) -> Iterator[tuple[bytes, int]]:
     """Yields the entries of an access list in canonical form, each with the offset behind it. `begin` is 0, or such an offset, from which an import
     goes on. Raises Wrong if the text does not begin as an access list, or where neither a whole list nor the end of the access list follows. Does not
     test that the lists are entries."""
@@ -68,20 +67,19 @@ def entries_in(text: mmap.mmap | bytes, begin: int = 0) -> Iterator[tuple[bytes,
         raise Wrong(f"octet {at}: neither an entry nor the end of the list")
 
 
-@contextlib.contextmanager
-def open_list(path: str) -> Iterator[mmap.mmap | bytes]:
-    """Opens a file for the block, which gets the text of its list. A text of at most 1 MiB may have any of the three forms, and is made canonical. A
-    longer file is mapped and given as it is. Raises Wrong for a short text in none of the forms, or a longer stream, and OSError."""
+def read_list(path: str) -> bytes:
+    """The text of the list in a file. One of at most 1 MiB may have any of the three forms, and is made canonical. A longer one is returned as it is.
+    Raises Wrong for a short text in none of the forms, or a longer stream, and OSError."""
     with open(path, "rb") as file:
-        if os.fstat(file.fileno()).st_size <= MOST:
-            text = file.read(MOST + 1)
-            # (a stream has no size)
-            if len(text) > MOST:
-                raise Wrong(f"{path}: a list of over 1 MiB must be in a file, and this is a stream")
-            yield canonical(text)
-            return
-        with mmap.mmap(file.fileno(), 0, access=mmap.ACCESS_READ) as mapped:
-            yield mapped
+        text = file.read(MOST + 1)
+        if len(text) <= MOST:
+            return canonical(text)
+        # (a stream has no size)
+        if not os.fstat(file.fileno()).st_size:
+            raise Wrong(f"{path}: a list of over 1 MiB must be in a file, and this is a stream")
+        # (not mapped: where a file that is mapped becomes shorter, the system ends the process)
+        file.seek(0)
+        return file.read()
 
 
 def canonical(text: bytes) -> bytes:

@@ -3,7 +3,6 @@ how many of its octets and entries are in the store by now, and whether that is 
 from __future__ import annotations
 
 import hashlib
-import mmap
 import os
 import sys
 import tempfile
@@ -12,7 +11,7 @@ from collections import Counter
 from collections.abc import Iterator
 
 from .tables import Row, Store
-from .texts import BEGIN, END, Wrong, batches, entries_in, fault_of, open_list
+from .texts import BEGIN, END, Wrong, batches, entries_in, fault_of, read_list
 
 # The entries of one transaction of an import.
 MOST_AT_ONCE = 5000
@@ -43,52 +42,64 @@ class Progress:
             sys.stderr.flush()
 
 
-def digest_of(text: mmap.mmap | bytes) -> bytes:
+def digest_of(text: bytes) -> bytes:
     """The SHA-256 digest by which a list is known in `imports`."""
     return hashlib.sha256(text).digest()
 
 
+def parts_of(text: bytes, begin: int) -> Iterator[tuple[list[bytes], int]]:
+    """Yields the entries of a list from the offset `begin` on in parts, each for one transaction, with the offset behind it. Raises Wrong as
+    `entries_in` does."""
+    # (an item of a batch is an entry and the offset behind it)
+    for batch in batches(((item, len(item[0])) for item in entries_in(text, begin)), MOST_AT_ONCE):
+        yield [entry for entry, _ in batch], batch[-1][1]
+
+
 def import_list(store: Store, path: str, is_shown: bool) -> tuple[int, int]:
     """Adds the entries of the list in the file at `path`. Returns how many were added now, and how many before, by an import of this list that did
-    not end. A transaction adds entries and notes how far the import is, so nothing is added twice. `is_shown` says whether to show the progress.
-    Raises Wrong for a list that was imported before or is being imported, or has something that is no entry: the transactions before that stay."""
-    with open_list(path) as text:
-        digest, offset, before = digest_of(text), 0, 0
-        # (at most one row: how far an import of this list is)
-        for offset, before, is_done in store.rows("SELECT octets, entries, is_done FROM {imports} WHERE file = %s", digest):
-            if is_done:
-                raise Wrong(f"{path}: this list was imported before, {before} entries: `spki-store import --again` adds them once more")
-        progress, count = Progress(len(text), before, is_shown), before
-        # (an item of a batch is an entry and the offset behind it)
-        for batch in batches(((item, len(item[0])) for item in entries_in(text, offset)), MOST_AT_ONCE):
-            texts, end = [entry for entry, _ in batch], batch[-1][1]
-            if fault := fault_of(texts):
-                raise Wrong(f"{path}: entry {count + fault[0] + 1}: {fault[1]}")
-            count += len(texts)
-            with store.connection.transaction():
-                store.add_many(texts)
-                note(store, digest, offset, end, count, is_done=False)
-            offset = end
-            progress.show(end, count)
-        note(store, digest, offset, len(text), count, is_done=True)
-        progress.show(len(text), count)
-        return count - before, before
+    not end. `is_shown` says whether to show the progress. Raises Wrong for a list that was imported before or is being imported, or has something
+    that is no entry: since all entries are tested first, such a list adds nothing."""
+    text = read_list(path)
+    digest, offset, before = digest_of(text), 0, 0
+    # (at most one row: how far an import of this list is)
+    for offset, before, is_done in store.rows("SELECT octets, entries, is_done FROM {imports} WHERE file = %s", digest):
+        if is_done:
+            raise Wrong(f"{path}: this list was imported before, {before} entries: `spki-store import --again` adds them once more")
+    progress, count = Progress(len(text), before, is_shown), before
+    progress.show(offset, before)
+    for texts, _ in parts_of(text, offset):
+        if fault := fault_of(texts):
+            raise Wrong(f"{path}: entry {count + fault[0] + 1}: {fault[1]}")
+        count += len(texts)
+    count = before
+    for texts, end in parts_of(text, offset):
+        count += len(texts)
+        add_noted(store, texts, digest, offset, end, count, is_done=False)
+        offset = end
+        progress.show(end, count)
+    add_noted(store, [], digest, offset, len(text), count, is_done=True)
+    progress.show(len(text), count)
+    return count - before, before
 
 
-def note(store: Store, digest: bytes, begin: int, end: int, entries: int, is_done: bool) -> None:
-    """Notes that the list with a digest was imported from the offset `begin` up to `end`, and has so many entries up to there. `is_done` says that it
-    is the whole list. Raises Wrong if the list is no longer imported just up to `begin`: another import of it has done that meanwhile."""
-    # (this makes the list's row, or changes it if it is at `begin`; otherwise no row is returned)
-    if not store.rows("INSERT INTO {imports} AS so_far (file, octets, entries, is_done) VALUES (%s, %s, %s, %s) ON CONFLICT (file) DO UPDATE"
-                      " SET octets = excluded.octets, entries = excluded.entries, is_done = excluded.is_done"
-                      " WHERE so_far.octets = %s AND NOT so_far.is_done RETURNING 1", digest, end, entries, is_done, begin):
+def add_noted(store: Store, texts: list[bytes], digest: bytes, begin: int, end: int, entries: int, is_done: bool) -> None:
+    """Adds entries in canonical form, and notes that the list with a digest was imported from the offset `begin` up to `end`, and has so many entries
+    up to there. `is_done` says that it is the whole list. One statement does both: so nothing is added twice, and a client that is stopped or lost
+    leaves no transaction open, for which all other changes would wait. Raises Wrong, and adds nothing, if the list is no longer imported just up to
+    `begin`: another import of it has done that meanwhile."""
+    # (this makes the list's row, or changes it if it is at `begin`; otherwise `noted` has no row. COPY would take less time, but the policies of
+    # schema.sql for rows forbid it)
+    if not store.rows("WITH noted AS (INSERT INTO {imports} AS so_far (file, octets, entries, is_done) VALUES (%s, %s, %s, %s)"
+                      " ON CONFLICT (file) DO UPDATE SET octets = excluded.octets, entries = excluded.entries, is_done = excluded.is_done"
+                      " WHERE so_far.octets = %s AND NOT so_far.is_done RETURNING 1),"
+                      " added AS (INSERT INTO {entries} (text) SELECT * FROM unnest(%b::bytea[]) WHERE EXISTS (SELECT FROM noted))"
+                      " SELECT 1 FROM noted", digest, end, entries, is_done, begin, texts):
         raise Wrong("this list is being imported by another process: nothing is added twice")
 
 
 def forget(store: Store, path: str) -> None:
     """Forgets that a list was imported, wholly or in part, so that the next import begins anew. Its entries stay in the store."""
-    with open_list(path) as text:
-        store.rows("DELETE FROM {imports} WHERE file = %s", digest_of(text))
+    store.rows("DELETE FROM {imports} WHERE file = %s", digest_of(read_list(path)))
 
 
 def export_list(store: Store, path: str) -> int:
@@ -117,19 +128,19 @@ def export_list(store: Store, path: str) -> int:
 def differences(store: Store, path: str) -> Iterator[tuple[Row | None, bytes]]:
     """Yields the rows that a list does not have, each with its text, and then None with each entry of the list that the store does not have. Of equal
     entries each counts: one that the list has twice and the store once is missing once."""
-    with open_list(path) as text:
-        # (how often the list has each entry, by its digest, less the rows that have it)
-        counts = Counter(hashlib.sha256(entry).digest() for entry, _ in entries_in(text))
-        for row in store.all():
-            digest = hashlib.sha256(row.text).digest()
-            if counts[digest] > 0:
-                counts[digest] -= 1
-            else:
-                yield row, row.text
-        # (unary plus leaves out what is not above 0)
-        missing = +counts
-        for entry, _ in entries_in(text) if missing else ():
-            digest = hashlib.sha256(entry).digest()
-            if missing[digest] > 0:
-                missing[digest] -= 1
-                yield None, entry
+    text = read_list(path)
+    # (how often the list has each entry, by its digest, less the rows that have it)
+    counts = Counter(hashlib.sha256(entry).digest() for entry, _ in entries_in(text))
+    for row in store.all():
+        digest = hashlib.sha256(row.text).digest()
+        if counts[digest] > 0:
+            counts[digest] -= 1
+        else:
+            yield row, row.text
+    # (unary plus leaves out what is not above 0)
+    missing = +counts
+    for entry, _ in entries_in(text) if missing else ():
+        digest = hashlib.sha256(entry).digest()
+        if missing[digest] > 0:
+            missing[digest] -= 1
+            yield None, entry
