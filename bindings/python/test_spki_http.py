@@ -9,7 +9,9 @@ from __future__ import annotations
 import base64
 import copy
 import dataclasses
+import email
 import http.server
+import io
 import os
 import pickle
 import re
@@ -17,6 +19,7 @@ import threading
 import unittest
 import urllib.error
 import urllib.request
+import urllib.response
 import warnings
 from collections.abc import Callable, Iterator
 from typing import Any
@@ -307,6 +310,28 @@ class Clients(unittest.TestCase):
             urllib.request.build_opener(urllib.request.ProxyHandler({}), spki_http.Handler(self.signers[0], "example.com")).open(self.url)
         self.assertEqual((raised.exception.code, raised.exception.reason), (401, "absent"))
         raised.exception.close()
+
+    def test_handler_signs_nothing_by_http_after_https(self) -> None:
+        """A request to https is signed, and that by http to which it is redirected is not, though it goes to the same host and port."""
+        first: list[urllib.request.Request] = []
+        target = self.url
+
+        class Redirecting(urllib.request.HTTPSHandler):
+            """Answers each request by https with a redirection to the service, which is by http."""
+
+            def https_open(self, request: urllib.request.Request) -> urllib.response.addinfourl:  # type: ignore[override]
+                """The redirection, as an answer that `urllib` follows."""
+                first.append(request)
+                response = urllib.response.addinfourl(io.BytesIO(), email.message_from_string(f"Location: {target}\n\n"), request.full_url, 302)
+                response.msg = "Found"  # type: ignore[attr-defined]
+                return response
+
+        opener = urllib.request.build_opener(urllib.request.ProxyHandler({}), Redirecting, spki_http.Handler(self.signers[0], self.name))
+        with self.assertRaises(urllib.error.HTTPError) as raised:
+            opener.open(f"https://{self.name}/a")
+        self.assertEqual((raised.exception.code, raised.exception.reason), (401, "absent"))
+        raised.exception.close()
+        self.assertTrue(first[0].has_header("Signature"))
 
     def test_auth_signs_requests(self) -> None:
         """`Auth` signs a request like that of `requests`, which has `body`, and one like that of `httpx`, which has `content`. It adds nothing to one
