@@ -23,6 +23,7 @@ import urllib.response
 import warnings
 from collections.abc import Callable, Iterator
 from typing import Any
+from unittest import mock
 
 import spki_http
 from spki_http import _fields, _message
@@ -222,6 +223,23 @@ class Requests(unittest.TestCase):
             with self.assertRaises(spki_http.Refused) as refused:
                 verifier.take(proof)
             self.assertEqual(refused.exception.name, wanted)
+
+    def test_start_by_a_clock_that_was_behind(self) -> None:
+        """A service starts while its clock is ten minutes behind, and the clock is put right ten seconds later. What was created before the start by
+        the right clock is refused, since a service before this one may have answered it. A row has how far the clock was put forward, and how long
+        before that a request is signed."""
+        signer, monotonic = curve_signer(), 5000.0
+        with mock.patch("time.monotonic", lambda: monotonic):
+            verifier = spki_http.Verifier("example.com")
+            started, monotonic = verifier.start, monotonic + 10
+            for forward, before, wanted in ((0, 9, "valid"), (0, 11, "before-start"), (600, 9, "valid"), (600, 11, "before-start"),
+                                            (600, 200, "before-start")):
+                moment = started + 10.5 + forward
+                verifier.now = lambda: moment
+                with mock.patch("time.time", lambda: moment - before):
+                    fields = signer.fields("GET", "https://example.com/a")
+                message = spki_http.Message("GET", "example.com", "/a", fields.items(), b"")
+                self.assertEqual(answer(verifier, message), wanted, (forward, before))
 
     # Each nonce is kept for 360 s at least, in two sets of at most 2 nonces. `now` is in seconds. A young set begins at 1000, 1360, 1720 and 3000.
     # The one before it is then the old set, and is dropped at 3000, since it is over 720 s old. At 900 the clock has gone back.

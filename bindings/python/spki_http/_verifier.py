@@ -104,12 +104,16 @@ class Verifier:
         keeps the used nonces, in a `Memory` if it is None. `now` is the clock, in seconds since 1970, and `verify` says
         whether a signature is valid: `spki_verify` if it is None. A request that was created before `start`, in seconds
         since 1970, is refused, since its nonce may be forgotten. `start` is the time now if it is None, and 0 is for
-        nonces that outlast the process. Raises `ImportError` if `verify` is None and `cryptography` is missing."""
+        nonces that outlast the process. If neither `start` nor `now` is given, and the clock was behind at the start and was
+        put forward since, the time counts that this clock would have shown. With one of both the clock must be right then.
+        Raises `ImportError` if `verify` is None and `cryptography` is missing."""
         # (without the empty name, which a request has whose Host is the default port alone)
         self.authorities = {authority_of(scheme, name) for name in authorities} - {""}
         self.scheme, self.sequence, self.now = scheme, sequence, now
         self.verify = usual_verify() if verify is None else verify
         self.nonces: Nonces = Memory() if nonces is None else nonces
+        # (by the monotonic clock, which is read before `now` here, and after it later, so that the start is never found too late)
+        self.began = time.monotonic() if start is None and now is time.time else None
         self.start = int(now() if start is None else start)
 
     def prove(self, method: str, authority: str, target: str, fields: Iterable[tuple[str, str]], body: bytes | None = None) -> Proof:
@@ -167,14 +171,16 @@ class Verifier:
         return answer
 
     def _check_parameters(self, signature_input: Input) -> None:
-        """Tests the tag, the length of the nonce, and the times. Raises `Refused` with the name of the first test that
-        fails."""
-        now, created, expires = int(self.now()), signature_input.created, signature_input.expires
+        """Tests the tag, the length of the nonce, and the times. The signature must not precede the start of the service, neither
+        by the clock as it was set then, nor, if that is known, as it is set now. Raises `Refused` with the name of the first
+        test that fails."""
+        moment, created, expires = self.now(), signature_input.created, signature_input.expires
+        now, start = int(moment), self.start if self.began is None else max(self.start, int(moment - (time.monotonic() - self.began)))
         for is_wrong, name in (
             (signature_input.tag != TAG, "other-tag"),
             (not LEAST_NONCE <= len(signature_input.nonce) <= MOST_NONCE, "bad-nonce"),
             (not created < expires <= created + MOST_WINDOW, "bad-window"), (created > now + MOST_AHEAD, "too-early"),
-            (expires <= now, "expired"), (created < self.start, "before-start"),
+            (expires <= now, "expired"), (created < start, "before-start"),
         ):
             if is_wrong:
                 raise Refused(name)
