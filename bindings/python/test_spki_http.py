@@ -242,13 +242,14 @@ class Requests(unittest.TestCase):
                 self.assertEqual(answer(verifier, message), wanted, (forward, before))
 
     # Each nonce is kept for 360 s at least, in two sets of at most 2 nonces. `now` is in seconds. A young set begins at 1000, 1360, 1720 and 3000.
-    # The one before it is then the old set, and is dropped at 3000, since it is over 720 s old. At 900 the clock has gone back.
+    # The one before it is then the old set, and is dropped at 3000, since it is over 720 s old. At 900, 1740 and 2999 the clock has gone back: by
+    # over a second no nonce is taken, also not that of 1720, which was dropped.
     def test_nonces_are_kept_in_two_sets(self) -> None:
         store = spki_http.Memory(2)
         for nonce, now, wanted in (
             ("a", 1000, ""), ("a", 1000, "nonce-seen"), ("b", 1100, ""), ("c", 1359, "store-full"), ("b", 1359, "nonce-seen"), ("c", 1360, ""),
-            ("a", 1360, "nonce-seen"), ("b", 1459, "nonce-seen"), ("d", 900, ""), ("c", 1719, "nonce-seen"), ("a", 1720, ""),
-            ("c", 1720, "nonce-seen"), ("c", 3000, ""), ("a", 3000, ""),
+            ("a", 1360, "nonce-seen"), ("b", 1459, "nonce-seen"), ("d", 900, "before-start"), ("c", 1719, "nonce-seen"),
+            ("a", 1720, ""), ("c", 1720, "nonce-seen"), ("c", 3000, ""), ("a", 1740, "before-start"), ("d", 2999, ""), ("a", 3000, "store-full"),
         ):
             refusal = ""
             try:

@@ -56,10 +56,14 @@ class Memory:
 
     def take(self, key: bytes, nonce: str, now: int, seconds: int) -> None:
         """Keeps a nonce of a key for at least `seconds` from `now`, which is in seconds since 1970. Raises `Refused` if it
-        was used before, or if the young set is full: nothing is forgotten early."""
+        was used before, or if the young set is full: nothing is forgotten early. If the clock has gone back to over a second
+        before the young set began, each nonce is refused as `before-start`, since it may be forgotten."""
         # (the octet 0 separates key and nonce: a nonce has none. 16 octets of the digest are enough)
         digest = hashlib.sha256(key + b"\0" + nonce.encode()).digest()[:16]
         with self.lock:
+            if now < self.young_since - 1:
+                # (what was dropped had expired a second before the young set began)
+                raise Refused("before-start")
             age = now - self.young_since
             if age >= seconds:
                 # (after twice the time the nonces of the young set need not be kept either)

@@ -105,7 +105,7 @@ impl<N: TakeNonce> Requests<N> {
     /// first. The nonce is kept for as long as its signature may be accepted.
     ///
     /// # Errors
-    /// If the nonce was used before, there is no room for it, or the signature has expired since.
+    /// If the nonce was used before, there is no room for it, it may be forgotten, since the clock has gone back, or the signature has expired since.
     pub fn take(&self, proof: &Proof, now: u64) -> Result<(), Unproved> {
         if proof.expires <= now {
             // (the nonce may have been used, and be forgotten)
