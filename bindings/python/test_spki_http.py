@@ -9,7 +9,9 @@ from __future__ import annotations
 import base64
 import copy
 import dataclasses
+import email
 import http.server
+import io
 import os
 import pickle
 import re
@@ -17,9 +19,11 @@ import threading
 import unittest
 import urllib.error
 import urllib.request
+import urllib.response
 import warnings
 from collections.abc import Callable, Iterator
 from typing import Any
+from unittest import mock
 
 import spki_http
 from spki_http import _fields, _message
@@ -220,14 +224,32 @@ class Requests(unittest.TestCase):
                 verifier.take(proof)
             self.assertEqual(refused.exception.name, wanted)
 
+    def test_start_by_a_clock_that_was_behind(self) -> None:
+        """A service starts while its clock is ten minutes behind, and the clock is put right ten seconds later. What was created before the start by
+        the right clock is refused, since a service before this one may have answered it. A row has how far the clock was put forward, and how long
+        before that a request is signed."""
+        signer, monotonic = curve_signer(), 5000.0
+        with mock.patch("time.monotonic", lambda: monotonic):
+            verifier = spki_http.Verifier("example.com")
+            started, monotonic = verifier.start, monotonic + 10
+            for forward, before, wanted in ((0, 9, "valid"), (0, 11, "before-start"), (600, 9, "valid"), (600, 11, "before-start"),
+                                            (600, 200, "before-start")):
+                moment = started + 10.5 + forward
+                verifier.now = lambda: moment
+                with mock.patch("time.time", lambda: moment - before):
+                    fields = signer.fields("GET", "https://example.com/a")
+                message = spki_http.Message("GET", "example.com", "/a", fields.items(), b"")
+                self.assertEqual(answer(verifier, message), wanted, (forward, before))
+
     # Each nonce is kept for 360 s at least, in two sets of at most 2 nonces. `now` is in seconds. A young set begins at 1000, 1360, 1720 and 3000.
-    # The one before it is then the old set, and is dropped at 3000, since it is over 720 s old. At 900 the clock has gone back.
+    # The one before it is then the old set, and is dropped at 3000, since it is over 720 s old. At 900, 1740 and 2999 the clock has gone back: by
+    # over a second no nonce is taken, also not that of 1720, which was dropped.
     def test_nonces_are_kept_in_two_sets(self) -> None:
         store = spki_http.Memory(2)
         for nonce, now, wanted in (
             ("a", 1000, ""), ("a", 1000, "nonce-seen"), ("b", 1100, ""), ("c", 1359, "store-full"), ("b", 1359, "nonce-seen"), ("c", 1360, ""),
-            ("a", 1360, "nonce-seen"), ("b", 1459, "nonce-seen"), ("d", 900, ""), ("c", 1719, "nonce-seen"), ("a", 1720, ""),
-            ("c", 1720, "nonce-seen"), ("c", 3000, ""), ("a", 3000, ""),
+            ("a", 1360, "nonce-seen"), ("b", 1459, "nonce-seen"), ("d", 900, "before-start"), ("c", 1719, "nonce-seen"),
+            ("a", 1720, ""), ("c", 1720, "nonce-seen"), ("c", 3000, ""), ("a", 1740, "before-start"), ("d", 2999, ""), ("a", 3000, "store-full"),
         ):
             refusal = ""
             try:
@@ -307,6 +329,28 @@ class Clients(unittest.TestCase):
             urllib.request.build_opener(urllib.request.ProxyHandler({}), spki_http.Handler(self.signers[0], "example.com")).open(self.url)
         self.assertEqual((raised.exception.code, raised.exception.reason), (401, "absent"))
         raised.exception.close()
+
+    def test_handler_signs_nothing_by_http_after_https(self) -> None:
+        """A request to https is signed, and that by http to which it is redirected is not, though it goes to the same host and port."""
+        first: list[urllib.request.Request] = []
+        target = self.url
+
+        class Redirecting(urllib.request.HTTPSHandler):
+            """Answers each request by https with a redirection to the service, which is by http."""
+
+            def https_open(self, request: urllib.request.Request) -> urllib.response.addinfourl:  # type: ignore[override]
+                """The redirection, as an answer that `urllib` follows."""
+                first.append(request)
+                response = urllib.response.addinfourl(io.BytesIO(), email.message_from_string(f"Location: {target}\n\n"), request.full_url, 302)
+                response.msg = "Found"  # type: ignore[attr-defined]
+                return response
+
+        opener = urllib.request.build_opener(urllib.request.ProxyHandler({}), Redirecting, spki_http.Handler(self.signers[0], self.name))
+        with self.assertRaises(urllib.error.HTTPError) as raised:
+            opener.open(f"https://{self.name}/a")
+        self.assertEqual((raised.exception.code, raised.exception.reason), (401, "absent"))
+        raised.exception.close()
+        self.assertTrue(first[0].has_header("Signature"))
 
     def test_auth_signs_requests(self) -> None:
         """`Auth` signs a request like that of `requests`, which has `body`, and one like that of `httpx`, which has `content`. It adds nothing to one

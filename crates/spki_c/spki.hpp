@@ -22,6 +22,7 @@
 #include <string>
 #include <string_view>
 #include <type_traits>
+#include <utility>
 #include <vector>
 
 namespace spki {
@@ -89,15 +90,14 @@ private:
 
 /* What is asked. The texts are those of spki_question, and must last until `ask` or `decide` returns. `words` has the strings of the
  * request; an array, a vector or another container of std::string_view or std::string will do. A view that makes each string while it is
- * read does not compile. */
+ * read does not compile: it must have forward iterators, which refer to the strings, or return each as a std::string_view or `const char *`. */
 struct question {
     template <typename Words>
     question(std::string_view sequence, proven_key key, const Words &words, std::chrono::system_clock::time_point now)
         : key(std::move(key)), seconds(std::chrono::floor<std::chrono::seconds>(now).time_since_epoch().count())
     {
         using std::begin;
-        using word_read = decltype(*begin(words));
-        static_assert(std::is_lvalue_reference_v<word_read> || std::is_trivially_destructible_v<word_read>,
+        static_assert(reads_lasting_words<std::decay_t<decltype(begin(words))>>(),
                       "a string that is made while it is read does not last until the question is asked");
         for (std::string_view word : words)
             strings.push_back(text_of(word));
@@ -119,6 +119,15 @@ struct question {
     }
 
 private:
+    /* Whether what an iterator reads outlasts it. An iterator that reads once, as std::istream_iterator, may refer to a string in itself. */
+    template <typename Iterator> static constexpr bool reads_lasting_words()
+    {
+        using word = decltype(*std::declval<Iterator &>());
+        if constexpr (std::is_lvalue_reference_v<word>)
+            return std::is_base_of_v<std::forward_iterator_tag, typename std::iterator_traits<Iterator>::iterator_category>;
+        return std::is_same_v<word, std::string_view> || std::is_same_v<word, const char *>;
+    }
+
     /* The sequence and the key alone. */
     spki_question parts{};
     proven_key key;

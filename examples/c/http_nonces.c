@@ -98,7 +98,7 @@ struct http_nonces *http_nonces_open(size_t most)
 }
 
 /* Once the young set is `seconds` old at `now`, drops the old set, puts the young one in its place, and begins an empty one. From twice `seconds` on,
- * both are dropped. If the clock went back, nothing is. */
+ * both are dropped. */
 static void drop_old_set(struct http_nonces *nonces, long long now, long long seconds)
 {
     long long age = now - nonces->young_since;
@@ -115,11 +115,14 @@ static void drop_old_set(struct http_nonces *nonces, long long now, long long se
 }
 
 /* Keeps a nonce of a key for at least so many seconds from `now`, in seconds since 1970. `store` is a struct http_nonces. Returns null, or the name
- * of the refusal: "nonce-seen" if it is kept already, or "store-full". */
+ * of the refusal: "nonce-seen" if it is kept already, or "store-full": nothing is forgotten early. If the clock has gone back to over a second before
+ * the young set began, each nonce is refused as "before-start", since it may be forgotten. */
 const char *http_nonces_take(void *store, struct spki_text key, struct spki_text nonce, long long now, long long seconds)
 {
     struct http_nonces *nonces = store;
     const uint64_t hash = hash_of(nonces->secret, key, nonce);
+    if (now < nonces->young_since - 1)
+        return "before-start"; /* (what was dropped had expired a second before the young set began) */
     drop_old_set(nonces, now, seconds);
     uint64_t *place = place_of(nonces->young, nonces->most, hash);
     if (*place || *place_of(nonces->old, nonces->most, hash))

@@ -27,8 +27,9 @@ struct http_request {
 };
 
 /* A service: its names in small letters, with ports that are not 443, and the time in seconds since 1970 before which nothing may be created, since
- * its nonce may be forgotten: the start of the process, or 0 if the nonces outlast it. `take` gets `store`, keeps a nonce of a key for so many
- * seconds from `now`, and returns null, or the name of the refusal: "nonce-seen" or "store-full". */
+ * its nonce may be forgotten: the start of the process, or 0 if the nonces outlast it. The clock must be right then: if it was behind, and is put
+ * forward later, a request that was proved before the start can be proved again. `take` gets `store`, keeps a nonce of a key for so many seconds
+ * from `now`, and returns null, or the name of the refusal: "nonce-seen", "store-full", or "before-start" if the nonce may be forgotten. */
 struct http_service {
     const struct spki_text *names;
     size_t name_count;

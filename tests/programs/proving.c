@@ -1,7 +1,7 @@
 /* Proves requests by examples/c/http_request.c. Reads strings LENGTH:OCTETS from standard input, for each request: the method, the authority, the
- * target, the time (seconds since 1970), how many seconds before the same came or an empty string, `1` if it has a body that no field says or an
- * empty string, the number of fields, and the name and the value of each. Writes a line for each: the refusal, or `valid` and the body's digest in
- * hexadecimal digits. Ends with 1 for over MOST_FIELDS fields or too few, if the earlier one is refused, another key is proved, or without memory. */
+ * target, the time (seconds since 1970), how many seconds before the same came, `1` if it has a body that no field says (either may be empty), the
+ * number of fields, and each name and value. Writes a line for each: the refusal, or `valid` and the body's digest in hexadecimal digits. Ends with 1
+ * without memory, for too few or too many fields, if the earlier one is refused, another key is proved, or a clock put back proves it again. */
 #include "http_request.h"
 #include "read_string.h"
 
@@ -12,10 +12,9 @@ enum { METHOD, AUTHORITY, TARGET, TIME, BEFORE, BODY, FIELD_COUNT, HEAD };
 /* Reads `count` strings. False if one of them is not there. */
 static bool read_strings(struct spki_text *strings, size_t count)
 {
-    for (size_t i = 0; i < count; i++)
-        if (!read_string(&strings[i]))
-            return false;
-    return true;
+    for (; count > 0 && read_string(strings); count--)
+        strings++;
+    return count == 0;
 }
 
 /* Frees what read_strings has read. */
@@ -42,7 +41,8 @@ static void answer(const struct spki_text *head, struct spki_text *of_fields, si
     if (head[BEFORE].length && http_request_refusal(&service, &request, now - atoll(head[BEFORE].octets), &proof))
         exit(1);
     const char *why = http_request_refusal(&service, &request, now, &proof);
-    if (!why && http_proven_key(&proof).text.octets != proof.key)
+    if (!why && (http_proven_key(&proof).text.octets != proof.key || http_nonces_take(service.store, head[METHOD], head[METHOD], now + 1000, 360)
+                 || !http_request_refusal(&service, &request, now, &proof)))
         exit(1);
     printf("%s ", why ? why : "valid");
     for (size_t i = 0; !why && i < proof.digest_length; i++)

@@ -842,6 +842,31 @@ func TestForms(t *testing.T) {
 	}
 }
 
+// TestTextBesideAPointer has the texts of calls in an object that also has a pointer, as a connection has its buffer. cgo would panic if it examined
+// that object.
+func TestTextBesideAPointer(t *testing.T) {
+	connection := &struct {
+		name   *string
+		buffer [100]byte
+	}{name: new(string)}
+	text := connection.buffer[:copy(connection.buffer[:], list)]
+	for _, convert := range []func([]byte) ([]byte, error){guard.Canonical, guard.Advanced, guard.Transport} {
+		if _, err := convert(text); err != nil {
+			t.Error(err)
+		}
+	}
+	opened, err := guard.Open(text, guard.Strict, guard.Limits{})
+	if err != nil {
+		t.Fatal(err)
+	}
+	defer opened.Close()
+	question := questionWith(0)
+	question.Sequence = connection.buffer[:copy(connection.buffer[:], question.Sequence)]
+	if _, err := opened.Decide(question, acceptNone); err != nil {
+		t.Error(err)
+	}
+}
+
 // TestTooLongTextNeedsNoLongBuffer converts a text of 16 MiB, which is refused. The buffer of an answer does not grow with it, and has little more
 // than 3 MiB: three times the longest text within the limit. The text itself, a copy of the string, takes 16 MiB. So 32 MiB suffice.
 func TestTooLongTextNeedsNoLongBuffer(t *testing.T) {

@@ -1,7 +1,7 @@
 package guard
 
-// All calls of the library are in this file. C uses memory of Go's during one call only, and keeps no pointer to it. Such memory has no pointers
-// itself, as cgo requires.
+// All calls of the library are in this file. C uses memory of Go's during one call only, and keeps no pointer to it. Octets are passed as a *C.char.
+// Of an unsafe.Pointer, also in a structure, cgo examines the whole object that it points into, and panics if that has a pointer to memory of Go's.
 
 /*
 #cgo !spki_shared CFLAGS: -I${SRCDIR}/../../../crates/spki_c
@@ -42,12 +42,12 @@ const (
 	roomForLine = C.LIBRARY_LINE
 )
 
-// text returns octets as an argument of the library, which reads them where they are during one call. The pointer of an empty text is null.
-func text(octets []byte) C.struct_spki_text {
+// addressOf returns the address of octets as an argument of the library, which reads them where they are during one call. It is null for none.
+func addressOf(octets []byte) *C.char {
 	if len(octets) == 0 {
-		return C.struct_spki_text{}
+		return nil
 	}
-	return C.struct_spki_text{octets: unsafe.Pointer(&octets[0]), length: C.size_t(len(octets))}
+	return (*C.char)(unsafe.Pointer(&octets[0]))
 }
 
 // octetsOf returns the octets of a text of the library without a copy. They are valid until the library frees them.
@@ -91,16 +91,24 @@ func errorOf(status C.enum_spki_status, line string) error {
 	return fmt.Errorf("libspki_c is of another version than this module: status %d", uint(status))
 }
 
+// checkVersion returns an error if the library is of a version that this module cannot call. The calls that need no guard or question check it first.
+func checkVersion() error {
+	if linked := C.GoString(C.spki_version()); !isCompatible(linked) {
+		return fmt.Errorf("libspki_c has the version %s, and this module needs %s", linked, Version)
+	}
+	return nil
+}
+
 // open reads an access list. The caller closes the guard, and has tested by Limits.check that no limit is below zero. The errors are those of Open.
 func open(list []byte, policy Policy, limits Limits) (guardHandle, error) {
-	if linked := C.GoString(C.spki_version()); !isCompatible(linked) {
-		return nil, fmt.Errorf("libspki_c has the version %s, and this module needs %s", linked, Version)
+	if err := checkVersion(); err != nil {
+		return nil, err
 	}
 	most := C.struct_spki_limits{
 		octets: C.size_t(limits.Octets), certificates: C.size_t(limits.Certificates), words: C.size_t(limits.Words),
 		nodes: C.size_t(limits.Nodes), work: C.size_t(limits.Work), answer: C.size_t(limits.Answer),
 	}
-	result := C.library_open(text(list), policyOf(policy), most)
+	result := C.library_open(addressOf(list), C.size_t(len(list)), policyOf(policy), most)
 	if result.status != C.SPKI_DONE || result.guard == nil {
 		return nil, errorOf(result.status, lineIn(&result))
 	}
@@ -131,7 +139,7 @@ func argumentsOf(question *Question) arguments {
 	joined, lengths := question.joined()
 	result := arguments{
 		parts:    C.struct_library_question{sequence_length: C.size_t(len(question.Sequence)), word_count: C.size_t(len(question.Words))},
-		sequence: (*C.char)(text(question.Sequence).octets), joined: (*C.char)(text(joined).octets), lengths: (*C.size_t)(unsafe.Pointer(&lengths[0])),
+		sequence: addressOf(question.Sequence), joined: addressOf(joined), lengths: (*C.size_t)(unsafe.Pointer(&lengths[0])),
 	}
 	if question.Words != nil {
 		result.parts.by_words = 1
@@ -233,6 +241,9 @@ func closeAsked(asked askedHandle) {
 // convert returns a text in another form. The command is SPKI_CANONICAL, SPKI_ADVANCED or SPKI_TRANSPORT. The error is a *Refusal, or that the
 // library is of another version.
 func convert(command command, source []byte) ([]byte, error) {
+	if err := checkVersion(); err != nil {
+		return nil, err
+	}
 	// No form has more than three times the octets of another: an octet that is printed in base64 takes 7 for the 3 of its canonical text, and `a(b)`,
 	// again and again, takes 8 for 3 in transport form. A text of more than mostOctets is refused, so the buffer is bounded.
 	octets := len(source)
@@ -240,8 +251,7 @@ func convert(command command, source []byte) ([]byte, error) {
 		octets = mostOctets
 	}
 	buffer, length := make([]byte, 3*octets+roomForLine), C.size_t(0)
-	argument := text(source)
-	status := C.spki_answer(command, argument.octets, argument.length, unsafe.Pointer(&buffer[0]), C.size_t(len(buffer)), &length).status
+	status := C.library_convert(command, addressOf(source), C.size_t(len(source)), addressOf(buffer), C.size_t(len(buffer)), &length)
 	if status == C.SPKI_TOO_SMALL {
 		// (`length` is then that of the answer, and the buffer has fewer octets. It is the error of a library of another version)
 		return nil, errorOf(status, "")
@@ -253,18 +263,20 @@ func convert(command command, source []byte) ([]byte, error) {
 }
 
 // Canonical returns the canonical form of the one value that a text is, in any of the three forms of RFC 9804. The error is a *Refusal if the text is
-// no such value, has more than 1,048,576 octets or more than 64 lists open at once, or if an allocation failed.
+// no such value, has more than 1,048,576 octets or more than 64 lists open at once, or if an allocation failed, and another one if the library is of
+// another version.
 func Canonical(text []byte) ([]byte, error) {
 	return convert(C.SPKI_CANONICAL, text)
 }
 
-// Advanced returns the advanced form of a text, which Canonical would accept, on one line, with a line feed at its end. The error is a *Refusal.
+// Advanced returns the advanced form of a text, which Canonical would accept, on one line, with a line feed at its end. The error is that of
+// Canonical.
 func Advanced(text []byte) ([]byte, error) {
 	return convert(C.SPKI_ADVANCED, text)
 }
 
 // Transport returns the transport form of a text, which Canonical would accept, on one line, with a line feed at its end. It is the form for a
-// header. The error is a *Refusal.
+// header. The error is that of Canonical.
 func Transport(text []byte) ([]byte, error) {
 	return convert(C.SPKI_TRANSPORT, text)
 }

@@ -1,5 +1,5 @@
-/* The calls of spki.h whose structures have pointers. Go passes each part by itself, since memory of Go's must have no pointer to other memory of
- * Go's. */
+/* The calls of spki.h that take octets as a `void *` or in a structure. Go passes each part by itself, and octets as a `char *`. Of a `void *`, also
+ * in a structure, cgo examines the whole object that it points into, and panics if that has a pointer to memory of Go's. */
 #include <spki.h>
 #include <stdlib.h>
 
@@ -29,12 +29,18 @@ struct library_question {
 };
 
 /* Opens a guard of the access list `list`. A limit of 0 is the usual one. `line` is that of a refusal, if there is one. */
-static inline struct library_result library_open(struct spki_text list, enum spki_policy policy, struct spki_limits limits)
+static inline struct library_result library_open(const char *list, size_t length, enum spki_policy policy, struct spki_limits limits)
 {
     struct library_result result = {0};
     limits.size = sizeof limits;
-    result.status = spki_guard_open(list.octets, list.length, policy, &limits, &result.guard, result.line, sizeof result.line, &result.length);
+    result.status = spki_guard_open(list, length, policy, &limits, &result.guard, result.line, sizeof result.line, &result.length);
     return result;
+}
+
+/* Writes a text in another form to `buffer`, as spki_answer does, by the command SPKI_CANONICAL, SPKI_ADVANCED or SPKI_TRANSPORT. */
+static inline enum spki_status library_convert(enum spki_command command, const char *text, size_t length, char *buffer, size_t room, size_t *needed)
+{
+    return spki_answer(command, text, length, buffer, room, needed).status;
 }
 
 /* Takes the first text off `*joined`, whose length is the first of `*lengths`, and sets both pointers to the next text. An empty text gets a null

@@ -570,8 +570,8 @@ func TestUnknownBodyIsNotSigned(t *testing.T) {
 }
 
 // TestNonces takes nonces at times in seconds. Each is kept for 360 s at least, in two sets of at most 2 nonces. A young set begins at 1000, 1360,
-// 1720 and 3000. The one before it is then the old set, and is dropped at 3000, since it is over 720 s old. At 900 the clock has gone back. At the
-// end two keys use the same nonce, and neither is refused.
+// 1720 and 3000. The one before it is then the old set, and is dropped at 3000, since it is over 720 s old. At 900, 1740 and 2999 the clock has gone
+// back: by over a second no nonce is taken, also not that of 1720, which was dropped. At the end two keys use the same nonce, and neither is refused.
 func TestNonces(t *testing.T) {
 	store := NewMemory(2)
 	for _, row := range []struct {
@@ -580,8 +580,8 @@ func TestNonces(t *testing.T) {
 		wanted error
 	}{
 		{"a", 1000, nil}, {"a", 1000, NonceSeen}, {"b", 1100, nil}, {"c", 1359, StoreFull}, {"b", 1359, NonceSeen}, {"c", 1360, nil},
-		{"a", 1360, NonceSeen}, {"b", 1459, NonceSeen}, {"d", 900, nil}, {"c", 1719, NonceSeen}, {"a", 1720, nil}, {"c", 1720, NonceSeen},
-		{"c", 3000, nil}, {"a", 3000, nil},
+		{"a", 1360, NonceSeen}, {"b", 1459, NonceSeen}, {"d", 900, BeforeStart}, {"c", 1719, NonceSeen}, {"a", 1720, nil},
+		{"c", 1720, NonceSeen}, {"c", 3000, nil}, {"a", 1740, BeforeStart}, {"d", 2999, nil}, {"a", 3000, StoreFull},
 	} {
 		if err := store.Take([]byte("key"), row.nonce, row.now, 360); err != row.wanted {
 			t.Errorf("%+v: %v", row, err)

@@ -35,7 +35,8 @@ func NewMemory(most int) *Memory {
 }
 
 // Take keeps a nonce of a key for at least `seconds` from `now`, which is in seconds since 1970. The error is NonceSeen if it was used before and is
-// still kept, and StoreFull if the young set is full: nothing is forgotten early.
+// still kept, and StoreFull if the young set is full: nothing is forgotten early. If the clock has gone back to over a second before the young set
+// began, each nonce is refused as BeforeStart, since it may be forgotten.
 func (m *Memory) Take(key []byte, nonce string, now, seconds int64) error {
 	var hasher maphash.Hash
 	hasher.SetSeed(m.seed)
@@ -46,6 +47,10 @@ func (m *Memory) Take(key []byte, nonce string, now, seconds int64) error {
 	hash := hasher.Sum64()
 	m.mutex.Lock()
 	defer m.mutex.Unlock()
+	if now < m.youngSince-1 {
+		// (what was dropped had expired a second before the young set began)
+		return BeforeStart
+	}
 	m.dropOld(now, seconds)
 	if _, isOld := m.old[hash]; isOld {
 		return NonceSeen
@@ -60,8 +65,8 @@ func (m *Memory) Take(key []byte, nonce string, now, seconds int64) error {
 	return nil
 }
 
-// dropOld drops the old set, and puts the young one in its place, once the young one is `seconds` old. From twice `seconds` on, both are dropped. If
-// the clock went back, none is. The caller has locked the mutex.
+// dropOld drops the old set, and puts the young one in its place, once the young one is `seconds` old. From twice `seconds` on, both are dropped. The
+// caller has locked the mutex.
 func (m *Memory) dropOld(now, seconds int64) {
 	age := now - m.youngSince
 	if age < seconds {

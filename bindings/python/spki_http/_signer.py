@@ -101,9 +101,10 @@ class Auth(_SignsForHosts):
     auth=Auth(signer, "files.example.org"))`.
 
     A request to any other host gets no signature and no certificates. But `requests` follows a redirection with the
-    fields of the first request, and so does `httpx` with `follow_redirects=True`. They prove nothing there:
-    `allow_redirects=False` or `follow_redirects=False` keeps the key and the certificates from other hosts. The body
-    must be octets or a string, and not a stream.
+    fields of the first request, and so does `httpx` with `follow_redirects=True`. They prove nothing there. But who gets
+    them, or reads them on the way by http, can send the first request, unless its nonce was used:
+    `allow_redirects=False` or `follow_redirects=False` keeps them from others. The body must be octets or a string, and
+    not a stream.
     """
 
     def __call__(self, request: Any) -> Any:
@@ -125,7 +126,10 @@ class Auth(_SignsForHosts):
 
 
 class Handler(_SignsForHosts, urllib.request.BaseHandler):
-    """Signs the requests of `urllib`, as `Auth` does: `urllib.request.build_opener(Handler(signer, "files.example.org"))`."""
+    """Signs the requests of `urllib`, as `Auth` does: `urllib.request.build_opener(Handler(signer, "files.example.org"))`.
+
+    A request by http to which a server has redirected is not signed. The signature does not cover the scheme, so whoever
+    reads the request on its way could send it by https."""
 
     # (urllib's own handlers that add fields have at most the order 500, so they add them before this one)
     handler_order = 900
@@ -134,7 +138,9 @@ class Handler(_SignsForHosts, urllib.request.BaseHandler):
         """Adds the fields of `Signer.fields` if the request goes to one of the hosts. Returns the request. `urllib` calls it for each request.
         Raises `TypeError` for a body that is not `bytes`, such as a stream, and what `Signer.fields` raises. A redirected request gets none of
         these fields from the first one."""
-        if self._is_to_host(request.full_url):
+        # (`urllib` sets `unverifiable` in a request that follows a redirection)
+        is_redirected_to_http = request.type == "http" and request.unverifiable
+        if self._is_to_host(request.full_url) and not is_redirected_to_http:
             body = request.data or b""
             if not isinstance(body, bytes):
                 raise TypeError("a body that is signed must be octets")

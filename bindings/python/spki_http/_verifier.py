@@ -56,10 +56,14 @@ class Memory:
 
     def take(self, key: bytes, nonce: str, now: int, seconds: int) -> None:
         """Keeps a nonce of a key for at least `seconds` from `now`, which is in seconds since 1970. Raises `Refused` if it
-        was used before, or if the young set is full: nothing is forgotten early."""
+        was used before, or if the young set is full: nothing is forgotten early. If the clock has gone back to over a second
+        before the young set began, each nonce is refused as `before-start`, since it may be forgotten."""
         # (the octet 0 separates key and nonce: a nonce has none. 16 octets of the digest are enough)
         digest = hashlib.sha256(key + b"\0" + nonce.encode()).digest()[:16]
         with self.lock:
+            if now < self.young_since - 1:
+                # (what was dropped had expired a second before the young set began)
+                raise Refused("before-start")
             age = now - self.young_since
             if age >= seconds:
                 # (after twice the time the nonces of the young set need not be kept either)
@@ -104,12 +108,16 @@ class Verifier:
         keeps the used nonces, in a `Memory` if it is None. `now` is the clock, in seconds since 1970, and `verify` says
         whether a signature is valid: `spki_verify` if it is None. A request that was created before `start`, in seconds
         since 1970, is refused, since its nonce may be forgotten. `start` is the time now if it is None, and 0 is for
-        nonces that outlast the process. Raises `ImportError` if `verify` is None and `cryptography` is missing."""
+        nonces that outlast the process. If neither `start` nor `now` is given, and the clock was behind at the start and was
+        put forward since, the time counts that this clock would have shown. With one of both the clock must be right then.
+        Raises `ImportError` if `verify` is None and `cryptography` is missing."""
         # (without the empty name, which a request has whose Host is the default port alone)
         self.authorities = {authority_of(scheme, name) for name in authorities} - {""}
         self.scheme, self.sequence, self.now = scheme, sequence, now
         self.verify = usual_verify() if verify is None else verify
         self.nonces: Nonces = Memory() if nonces is None else nonces
+        # (by the monotonic clock, which is read before `now` here, and after it later, so that the start is never found too late)
+        self.began = time.monotonic() if start is None and now is time.time else None
         self.start = int(now() if start is None else start)
 
     def prove(self, method: str, authority: str, target: str, fields: Iterable[tuple[str, str]], body: bytes | None = None) -> Proof:
@@ -167,14 +175,16 @@ class Verifier:
         return answer
 
     def _check_parameters(self, signature_input: Input) -> None:
-        """Tests the tag, the length of the nonce, and the times. Raises `Refused` with the name of the first test that
-        fails."""
-        now, created, expires = int(self.now()), signature_input.created, signature_input.expires
+        """Tests the tag, the length of the nonce, and the times. The signature must not precede the start of the service, neither
+        by the clock as it was set then, nor, if that is known, as it is set now. Raises `Refused` with the name of the first
+        test that fails."""
+        moment, created, expires = self.now(), signature_input.created, signature_input.expires
+        now, start = int(moment), self.start if self.began is None else max(self.start, int(moment - (time.monotonic() - self.began)))
         for is_wrong, name in (
             (signature_input.tag != TAG, "other-tag"),
             (not LEAST_NONCE <= len(signature_input.nonce) <= MOST_NONCE, "bad-nonce"),
             (not created < expires <= created + MOST_WINDOW, "bad-window"), (created > now + MOST_AHEAD, "too-early"),
-            (expires <= now, "expired"), (created < self.start, "before-start"),
+            (expires <= now, "expired"), (created < start, "before-start"),
         ):
             if is_wrong:
                 raise Refused(name)

@@ -66,7 +66,8 @@ pub struct Proof {
 
 impl<N: TakeNonce> Requests<N> {
     /// Checks requests to a service of these names, each with its port behind it unless it is that of https. `start` is the time in seconds since
-    /// 1970 before which nothing may be created, since its nonce may be forgotten: the start of the process, or 0 if the nonces outlast it.
+    /// 1970 before which nothing may be created, since its nonce may be forgotten: the start of the process, or 0 if the nonces outlast it. The clock
+    /// must be right then: if it was behind, and is put forward later, a request that was proved before the start can be proved again.
     ///
     /// `sha256` is the hash function of your crypto library: of the crate `openssl` it is `openssl::sha::sha256`. The hash of a request's key is
     /// compared with `keyid`, and used for nothing else. A wrong function refuses the requests of clients. It proves no key that has not signed:
@@ -104,7 +105,7 @@ impl<N: TakeNonce> Requests<N> {
     /// first. The nonce is kept for as long as its signature may be accepted.
     ///
     /// # Errors
-    /// If the nonce was used before, there is no room for it, or the signature has expired since.
+    /// If the nonce was used before, there is no room for it, it may be forgotten, since the clock has gone back, or the signature has expired since.
     pub fn take(&self, proof: &Proof, now: u64) -> Result<(), Unproved> {
         if proof.expires <= now {
             // (the nonce may have been used, and be forgotten)

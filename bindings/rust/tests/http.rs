@@ -274,7 +274,8 @@ fn the_published_signature_is_valid() {
 
 /// A row has a nonce, the second at which it comes, and the refusal, empty if the nonce is taken. Each set has room for 2, and a nonce is kept for
 /// 360 seconds. A young set begins at 1000, 1360, 1720 and 3000. The one before it is then the old set, and is dropped at 3000, since it is over 720
-/// seconds old. At 900 the clock has gone back. At the end another key uses a nonce of the first one, which is not refused.
+/// seconds old. At 900, 1740 and 2999 the clock has gone back: by over a second no nonce is taken, also not that of 1720, which was dropped. At the
+/// end another key uses a nonce of the first one, which is not refused.
 #[test]
 fn nonces_are_kept_in_two_sets() {
     let store = Nonces::new(2);
@@ -287,17 +288,19 @@ fn nonces_are_kept_in_two_sets() {
         ("c", 1360, ""),
         ("a", 1360, "nonce-seen"),
         ("b", 1459, "nonce-seen"),
-        ("d", 900, ""),
+        ("d", 900, "before-start"),
         ("c", 1719, "nonce-seen"),
         ("a", 1720, ""),
         ("c", 1720, "nonce-seen"),
         ("c", 3000, ""),
-        ("a", 3000, ""),
+        ("a", 1740, "before-start"),
+        ("d", 2999, ""),
+        ("a", 3000, "store-full"),
     ] {
         let refusal = store.take(b"key", nonce, now, 360).err();
         assert_eq!(refusal.map_or("", Unproved::name), wanted, "{nonce} {now}");
     }
-    assert!(store.take(b"another key", "a", 3360, 360).is_ok());
+    assert!(store.take(b"another key", "c", 3360, 360).is_ok());
 }
 
 /// A nonce that was used is `NonceSeen` while its signature has not ended, as 100 seconds later. Once it has, as 900 seconds later, the nonce may be

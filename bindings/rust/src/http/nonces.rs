@@ -48,10 +48,15 @@ impl Nonces {
 }
 
 impl TakeNonce for Nonces {
-    /// Fails with `NonceSeen` for a nonce whose hash is kept, and with `StoreFull` if the young set is full.
+    /// Fails with `NonceSeen` for a nonce whose hash is kept, and with `StoreFull` if the young set is full: nothing is forgotten early. If the clock
+    /// has gone back to over a second before the young set began, each nonce is refused as `BeforeStart`, since it may be forgotten.
     fn take(&self, key: &[u8], nonce: &str, now: u64, seconds: u64) -> Result<(), Unproved> {
         let hash = self.hasher.hash_one((key, nonce));
         let mut sets = self.sets.lock().unwrap_or_else(PoisonError::into_inner);
+        if now.saturating_add(1) < sets.young_since {
+            // (what was dropped had expired a second before the young set began)
+            return Err(Unproved::BeforeStart);
+        }
         sets.forget_old(now, seconds);
         if sets.old.contains(&hash) || sets.young.contains(&hash) {
             return Err(Unproved::NonceSeen);
@@ -66,7 +71,7 @@ impl TakeNonce for Nonces {
 
 impl Sets {
     /// Makes the young set the old one once it is `seconds` old at `now`, in seconds since 1970, and begins an empty one. If it is twice as old, its
-    /// nonces are forgotten at once. If the clock went back, nothing is forgotten.
+    /// nonces are forgotten at once.
     fn forget_old(&mut self, now: u64, seconds: u64) {
         let age = now.saturating_sub(self.young_since);
         if age < seconds {
