@@ -109,8 +109,7 @@ func (d *decider) judge(result *record, key guard.ProvenKey, path, sequence stri
 	question := guard.Question{Key: key, Words: result.Request, Time: now}
 	var decision guard.Decision
 	var err error
-	// (decideKnown opens no question that explain could ask for reasons)
-	if verified := d.sequences.get(sequence); verified != nil && !d.config.Explain {
+	if verified := d.sequences.get(sequence); verified != nil {
 		decision, err = d.decideKnown(result, question, path, verified)
 	} else {
 		decision, err = d.decideAnew(result, question, path, sequence)
@@ -183,14 +182,11 @@ func (l *list) useAtGate(present *access, use func(present *access, list *list) 
 	return use(present, l)
 }
 
-// decideAnew decides a question by certificates whose signatures are not all known to be valid, and notes them in a record. With `explain` in the
-// configuration it decides by known ones too. `sequence` has the certificates in transport form, or is empty. `path` is decoded. It fails with errNoList
-// or errBusy, if a store is stale or cannot be read, or if the library refuses the question.
+// decideAnew decides a question by certificates whose signatures are not all known to be valid, and notes them in a record. `sequence` has the
+// certificates in transport form. `path` is decoded. It fails with errNoList or errBusy, if a store is stale or cannot be read, or if the library
+// refuses the question.
 func (d *decider) decideAnew(result *record, question guard.Question, path, sequence string) (decision guard.Decision, err error) {
-	question.Sequence = noCertificates
-	if sequence != "" {
-		question.Sequence = []byte(sequence)
-	}
+	question.Sequence = []byte(sequence)
 	_, _, err = d.withList(&question, result.Host, path, func(present *access, list *list) (err error) {
 		decision, err = d.decideBy(result, present, list, question, sequence)
 		return err
@@ -232,25 +228,38 @@ func (d *decider) decideBy(result *record, present *access, list *list, question
 		certificates.verified = opened.Verified()
 		d.sequences.add(sequence, certificates)
 	}
-	if err == nil && !decision.Granted() && d.config.Explain {
-		result.Reasons = d.explain(result, opened)
-	}
 	return decision, err
 }
 
-// explain returns, as a text for the log, why a request that was decided is denied; notExplained, if more denials were explained than explain_rate
-// allows; or the text of the error, if explaining fails. Signatures that were not verified, since they could not help, are marked as valid: so the
-// reasons are what else is missing. These marks come after the decision, and change only the reasons.
-func (d *decider) explain(result *record, opened *guard.Asked) string {
+// explain notes in a record, as a text for the log, why judge has denied its request by `sequence`; notExplained, if more denials were explained than
+// explain_rate allows; or the text of the error, if explaining fails. It asks the question again, and decides nothing. Signatures that were not
+// verified, since they could not help, are marked as valid too: so the reasons are what else is missing. If the list was replaced since the decision,
+// the reasons are those of the new one, which the record then names.
+func (d *decider) explain(result *record, key guard.ProvenKey, path, sequence string, now time.Time) {
 	const allKeys = ""
 	if !d.explanations.allows(allKeys, d.now()) {
-		return notExplained
+		result.Reasons = notExplained
+		return
 	}
-	if err := markFirst(opened, result.Unverified); err != nil {
-		return err.Error()
+	question := guard.Question{Sequence: noCertificates, Key: key, Words: result.Request, Time: now}
+	if sequence != "" {
+		question.Sequence = []byte(sequence)
 	}
-	explanation, err := opened.Explain()
-	return reasonsOf(explanation, err, result.entryNumber)
+	var explanation guard.Explanation
+	_, _, err := d.withList(&question, result.Host, path, func(_ *access, list *list) error {
+		opened, err := list.guard.Ask(question)
+		if err != nil {
+			return err
+		}
+		defer opened.Close()
+		if err := markFirst(opened, result.mayCount); err != nil {
+			return err
+		}
+		result.List, result.numbers = list.digest, list.numbers
+		explanation, err = opened.Explain()
+		return err
+	})
+	result.Reasons = reasonsOf(explanation, err, result.entryNumber)
 }
 
 // countValid verifies signatures up to the first that is not valid, and returns how many precede that one, or the number of all. `certificates` are
@@ -265,6 +274,7 @@ func (d *decider) countValid(result *record, certificates *shownSequence, signat
 		if !isValid {
 			result.Certificates = certificates.names[:place+1]
 			result.Reason = "certificate " + certificates.names[place] + " has no valid signature"
+			result.mayCount = place
 			return place
 		}
 		if wasKnown {

@@ -291,7 +291,8 @@ func TestReloads(t *testing.T) {
 	}
 }
 
-// TestExplanations has two requests denied, and compares the reasons in the log: the right that Bob was given lacks the path, and no entry names Mallory.
+// TestExplanations has requests denied, and compares the reasons in the log: the right that Bob was given lacks the path, no entry names Mallory, and
+// the signature of Carol's second certificate is not Bob's.
 func TestExplanations(t *testing.T) {
 	s := newSite(t, `, "explain": true`)
 	bobs, _ := s.sequencesShown()
@@ -301,6 +302,10 @@ func TestExplanations(t *testing.T) {
 	}
 	s.askAs(s.mallory, "GET", "/web/x", "")
 	if reasons := s.lastLine(t).Reasons; reasons != "no entry is for this key or for the first issuer" {
+		t.Error(reasons)
+	}
+	s.askAs(s.carol, "GET", "/web/docs/a/b", sequence(s.alice.sign(s.toBob), s.mallory.signAs(s.bob, s.toCarol)))
+	if reasons := s.lastLine(t).Reasons; reasons != "item 3 NotAccepted" {
 		t.Error(reasons)
 	}
 }

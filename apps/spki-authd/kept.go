@@ -400,31 +400,45 @@ func (f *folderChains) write(key string, chain keptChain) error {
 	return err
 }
 
-// judgeAll sets the answer of a record by the certificates that its request shows. Where it shows none and the list alone denies it, each sequence
-// that is kept for its key is tried, until one grants the request. If none does, and the decision by one of them failed, the answer is `failed`. It is
-// also `failed` if the kept sequences cannot be read. `path` is decoded.
+// judgeAll sets the answer of a record by the certificates that its request shows. Where it shows none and the list alone denies it, those that are
+// kept for its key are tried. With `explain` in the configuration, a denial is explained once nothing grants the request. `path` is decoded.
 func (d *decider) judgeAll(result *record, key guard.ProvenKey, path string, inquiry *inquiry, now time.Time) {
 	// (each sequence is tried with the record as it is before the first decision)
-	before := *result
-	d.judge(result, key, path, inquiry.sequence, now)
-	if inquiry.sequence != "" || result.Answer != answerUnauthenticated || d.chains == nil {
-		return
+	before, sequence := *result, inquiry.sequence
+	d.judge(result, key, path, sequence, now)
+	if sequence == "" && result.Answer == answerUnauthenticated && d.chains != nil {
+		sequence = d.judgeByKept(result, before, key, path, now)
 	}
+	isDenied := result.Answer == answerNo || result.Answer == answerUnauthenticated
+	// (without a list nothing was decided that could be explained)
+	if d.config.Explain && isDenied && result.List != "" {
+		d.explain(result, key, path, sequence, now)
+	}
+}
+
+// judgeByKept tries each sequence that is kept for the key of a record, whose request the list alone denies, until one grants the request. If none
+// does, the answer stays `unauthenticated`, and the record is that of the last sequence, which is returned, or stays as it is without one. If a
+// decision failed, or the kept sequences cannot be read, the answer is `failed`. `before` is the record before the first decision. `path` is decoded.
+func (d *decider) judgeByKept(result *record, before record, key guard.ProvenKey, path string, now time.Time) (last string) {
 	chains, err := d.chains.currentOf(result.Key, now)
 	if err != nil {
 		*result = before.withReason(answerFailed, err)
-		return
+		return ""
 	}
 	for _, chain := range chains {
 		tried := before
 		d.judge(&tried, key, path, chain.text, now)
-		if tried.Answer == answerYes {
+		switch {
+		case tried.Answer == answerYes:
 			tried.Kept = "used"
 			*result = tried
-			return
-		}
-		if tried.Answer == answerFailed {
+			return ""
+		case tried.Answer == answerFailed:
 			*result = tried
+		case result.Answer != answerFailed:
+			tried.Answer = answerUnauthenticated
+			*result, last = tried, chain.text
 		}
 	}
+	return last
 }

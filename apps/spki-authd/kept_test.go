@@ -142,6 +142,48 @@ func TestKeptChains(t *testing.T) {
 	}
 }
 
+// TestDenialsByKeptChains has Bob leave two sequences. What they grant uses up no explanation. What they deny uses up one, and the log has the
+// certificates of the last one that was tried, and why it does not grant the request. Once a certificate in it has ended, the log says that too. At
+// one moment two denials are explained: explain_rate times savedSeconds.
+func TestDenialsByKeptChains(t *testing.T) {
+	s := newSite(t, `, "explain": true, "limits": {"explain_rate": 1}, "chains": {"folder": "`+t.TempDir()+`"}`+withSignatures)
+	s.reopenChains(t)
+	last := s.alice.certificate(s.bob, prefixTag("read", "/web/other/"), "")
+	bobs, _ := s.sequencesShown()
+	for _, shown := range []string{bobs, sequence(s.alice.sign(last))} {
+		if _, reply := s.leaveAs(t, s.bob, shown); reply != answerKept {
+			t.Error(reply)
+		}
+	}
+	moment := time.Now()
+	s.now = func() time.Time { return moment }
+	const forNoKey = "no entry is for this key or for the first issuer"
+	for _, row := range []struct {
+		name, target, reasons string
+		who                   person
+		status, certificates  int
+	}{
+		{"by the first", "/web/docs/b", "", s.bob, 200, 1},
+		{"by the first again", "/web/docs/b", "", s.bob, 200, 1},
+		{"by the last", "/web/other/b", "", s.bob, 200, 1},
+		{"by neither", "/web/x", "entry 1 TagLacks", s.bob, 401, 1},
+		{"by none", "/web/x", forNoKey, s.mallory, 401, 0},
+		{"no more at this moment", "/web/x", notExplained, s.bob, 401, 1},
+	} {
+		status, line := s.statusFor(row.who, row.target, ""), s.lastLine(t)
+		if status != row.status || line.Reasons != row.reasons || len(line.Certificates) != row.certificates {
+			t.Errorf("%s: %d, %+v", row.name, status, line)
+		}
+	}
+	s.config.Ended = writeFile(t, "ended", withLastLine(digestOfText(last)+"\n"))
+	s.mustReload(t)
+	moment = moment.Add(time.Second)
+	status, line := s.statusFor(s.bob, "/web/x", ""), s.lastLine(t)
+	if status != 401 || line.Reason != "certificate "+digestOfText(last)+" has ended" || line.Reasons != "item 1 NotAccepted" {
+		t.Errorf("%d, %+v", status, line)
+	}
+}
+
 // hashOfKey returns the hash that names a person's key, in canonical form.
 func (p person) hashOfKey() string {
 	digest := sha256.Sum256([]byte(p.key))

@@ -29,7 +29,8 @@ const (
 // A record is one decision: the line of the log, and the answer to the web server. It has no key and no certificate, but their digests. Cached counts
 // the signatures that were known to be valid, and Unverified those that were not verified since they could change nothing. Reason is the fault that
 // the daemon has found, and Reasons are the library's, of a denial that is explained. Kept is `used` where certificates that were left grant the
-// request. Address is noted only where it asks too often, and Target only where there is no Request.
+// request. If none of them does, Certificates has the last that were tried. Address is noted only where it asks too often, and Target only where
+// there is no Request.
 type record struct {
 	Time         string   `json:"time"`
 	ID           string   `json:"id,omitempty"`
@@ -54,6 +55,8 @@ type record struct {
 	rule int
 	// Where the list is in a store, the numbers there of the entries in the guard, in their order.
 	numbers []int
+	// How many certificates precede the first that has ended, or whose signature was verified and is not valid. explain marks these as valid.
+	mayCount int
 }
 
 // entryNumber returns the number of an entry as the log has it, by its place in the guard, from 1. Where entries are in a store, that is the number in the
@@ -74,7 +77,7 @@ func (r record) withReason(answer answer, fault error) record {
 // noteSequence notes the list by which a question is decided, and the certificates of its sequence. `notEnded` is how many of these precede the first that
 // has ended early, or the number of all. If one has ended, that is the reason, and those behind it are left out.
 func (r *record) noteSequence(list *list, sequence *shownSequence, notEnded int) {
-	r.List, r.numbers, r.Certificates = list.digest, list.numbers, sequence.names
+	r.List, r.numbers, r.Certificates, r.mayCount = list.digest, list.numbers, sequence.names, notEnded
 	if notEnded < len(sequence.names) {
 		r.Certificates = sequence.names[:notEnded+1]
 		r.Reason = "certificate " + sequence.names[notEnded] + " has ended"

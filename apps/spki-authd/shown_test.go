@@ -197,12 +197,18 @@ func TestKeptSequencesKeepNoHeader(t *testing.T) {
 	}
 }
 
-// TestKeptSequencesAreExplained denies a request by a kept sequence: where denials are explained, the log has the reasons.
+// TestKeptSequencesAreExplained denies a request by a kept sequence, and then another one when its second certificate has ended: where denials are
+// explained, the log has the reasons.
 func TestKeptSequencesAreExplained(t *testing.T) {
 	s := newSite(t, `, "explain": true`)
-	bobs, _ := s.sequencesShown()
-	s.mustAnswer(t, "granted", s.bob, "/web/docs/b", bobs, 200)
-	if line := s.mustAnswer(t, "denied", s.bob, "/web/x", bobs, 403); line.Reasons != "entry 1 TagLacks" {
+	_, carols := s.sequencesShown()
+	s.mustAnswer(t, "granted", s.carol, "/web/docs/a/b", carols, 200)
+	if line := s.mustAnswer(t, "denied", s.carol, "/web/x", carols, 403); line.Reasons != "entry 1 TagLacks" {
+		t.Errorf("%+v", line)
+	}
+	s.config.Ended = writeFile(t, "ended", withLastLine(digestOfText(s.toCarol)+"\n"))
+	s.mustReload(t)
+	if line := s.mustAnswer(t, "ended", s.carol, "/web/docs/a/b", carols, 403); line.Reasons != "item 3 NotAccepted" {
 		t.Errorf("%+v", line)
 	}
 }
