@@ -447,8 +447,10 @@ func TestStoreConfigs(t *testing.T) {
 	if err != nil {
 		t.Fatal(err)
 	}
-	if settings := config.Source.store; settings.Schema != "spki" || settings.mostAge() != 10*time.Second || !strings.Contains(settings.connectionString(), "sslmode=disable") {
-		t.Errorf("%+v", settings)
+	settings := config.Source.store
+	if words := settings.connectionString(); settings.Schema != "spki" || settings.mostAge() != 10*time.Second || !strings.Contains(words, "sslmode=disable ") ||
+		!strings.Contains(words, " search_path=pg_catalog ") {
+		t.Errorf("%+v %s", settings, words)
 	}
 	if config, err = parseConfig([]byte(withStore(`"host": "db", "root": "/a'b", "database": "d", "user": "u"`))); err != nil ||
 		!strings.Contains(config.Source.store.connectionString(), `sslmode=verify-full sslrootcert='/a\'b'`) {
