@@ -37,6 +37,9 @@ type store struct {
 	fault error
 	// The lists of entries that were read, by key.
 	kept *keptLists
+	// The states of those that were read at a change after the last one that was polled, by the digest of the key. noteResult drops such a list if
+	// the next poll does not read that change too.
+	unpolled map[digest]storeState
 	// The digests of the certificates that have ended early.
 	ended map[digest]struct{}
 	count storeCounts
@@ -78,8 +81,8 @@ type entryRows struct {
 // `ended` the certificates that have ended. isCut says that there were more changes than one poll reads.
 type pollResult struct {
 	storeState
-	// The time of the change with the number that `changesSince` was given, or 0 if there is no such change.
-	first   int64
+	// The times of the changes that `changesSince` read, by their numbers: also of the change with the number that it was given, if there is one.
+	times   map[int64]int64
 	changed [][]byte
 	ended   []digest
 	isCut   bool
@@ -125,7 +128,7 @@ func newStore(options *storeSettings, reader reader, open func(list []byte) (*gu
 		return nil, err
 	}
 	return &store{options: options, reader: reader, open: open, empty: empty, now: now, firsts: newRecentMap[string, string](mostShown),
-		kept: newKeptLists(*options.CacheMiB << 20), ended: map[digest]struct{}{}, fault: errNever}, nil
+		kept: newKeptLists(*options.CacheMiB << 20), unpolled: map[digest]storeState{}, ended: map[digest]struct{}{}, fault: errNever}, nil
 }
 
 // list returns a list of the entries that a question can need: one that is kept, or a new one. The caller closes its guard if it isPassing. It fails as
@@ -192,8 +195,8 @@ func (s *store) firstKeyIn(question *guard.Question) (first string, err error) {
 }
 
 // read reads the entries for a key from the database, and returns the list of them. `keyDigest` is the key's digest. The list is kept if it is not
-// too large, and if no later state and no other history was polled meanwhile; otherwise it isPassing. It fails with errOlder if the database's state
-// is older than the last poll's, and as reader.rows and openRows do.
+// too large, and if no later state and no other history was polled meanwhile; otherwise it isPassing. If it is of a later state than was polled, the
+// next poll says whether it stays. It fails with errOlder if the database's state is older than the last poll's, and as reader.rows and openRows do.
 func (s *store) read(keyDigest digest, key []byte) (*list, error) {
 	before := s.lastPolled()
 	digests := digestsOf(key)
@@ -210,8 +213,12 @@ func (s *store) read(keyDigest digest, key []byte) (*list, error) {
 	}
 	s.mutex.Lock()
 	defer s.mutex.Unlock()
-	isPresent := s.polled.history == before.history && rows.changes >= s.polled.changes
+	isLater := rows.changes > s.polled.changes
+	isPresent := s.polled.history == before.history && (isLater || rows.changes == s.polled.changes && rows.token == s.polled.token)
 	opened.isPassing = !isPresent || !s.kept.add(keyDigest, digests, opened, size)
+	if isLater && !opened.isPassing {
+		s.unpolled[keyDigest] = rows.storeState
+	}
 	return opened, nil
 }
 

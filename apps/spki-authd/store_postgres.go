@@ -64,12 +64,13 @@ const (
 
 var errVersion = errors.New("the store is of another version than this daemon reads")
 
-// Parts of the statements: the columns of a state, the tables that have them, and the time of a change in microseconds since 1970. `@` is the schema.
-// Each of the two tables has one row, in which `one` is true.
+// Parts of the statements: the columns of a state, the tables that have them, the time of a change in microseconds since 1970, and the join with the
+// last change. `@` is the schema. Each of the two tables has one row, in which `one` is true.
 const (
 	stateColumns = "s.version, s.changes, b.number, (extract(epoch FROM b.moment) * 1000000)::bigint"
 	stateTables  = "@.state s JOIN @.heartbeat b ON s.one AND b.one"
 	microseconds = "(extract(epoch FROM c.moment) * 1000000)::bigint"
+	lastChange   = " LEFT JOIN @.changes c ON c.number = s.changes"
 )
 
 // openReader returns what reads a store, and waits no longer than `patience` for a free connection, to connect, and for each read and each write. It
@@ -87,13 +88,14 @@ func openReader(options *storeSettings, patience time.Duration) (reader, error) 
 	}
 	// (one row more than mostRows shows openRows that there are too many. mostChanges+2 is for the change $1 itself, and for one more than a poll takes)
 	for ask, text := range map[int]string{
-		askRows: "SELECT " + stateColumns + ", e.number, e.text FROM " + stateTables + " LEFT JOIN LATERAL (" + rowsOf(sha1.Size, 1) + " UNION ALL " +
-			rowsOf(sha256.Size, 2) + " UNION ALL " + rowsOf(sha512.Size, 3) + fmt.Sprintf(" LIMIT %d) e ON true ORDER BY e.number", mostRows+1),
+		askRows: "SELECT " + stateColumns + ", " + microseconds + ", e.number, e.text FROM " + stateTables + lastChange + " LEFT JOIN LATERAL (" +
+			rowsOf(sha1.Size, 1) + " UNION ALL " + rowsOf(sha256.Size, 2) + " UNION ALL " + rowsOf(sha512.Size, 3) +
+			fmt.Sprintf(" LIMIT %d) e ON true ORDER BY e.number", mostRows+1),
 		askChangesSince: "SELECT " + stateColumns + ", c.number, " + microseconds + ", c.what, c.digest FROM " + stateTables +
 			fmt.Sprintf(" LEFT JOIN LATERAL (SELECT * FROM (SELECT number, moment, what, digest FROM @.changes WHERE number >= $1 ORDER BY number LIMIT %d) l)"+
 				" c ON true ORDER BY c.number", mostChanges+2),
-		askAllEnded: "SELECT " + stateColumns + ", " + microseconds + ", e.certificate FROM " + stateTables +
-			" LEFT JOIN @.changes c ON c.number = s.changes LEFT JOIN @.ended e ON true",
+		askAllEnded: "SELECT " + stateColumns + ", " + microseconds + ", e.certificate FROM " + stateTables + lastChange +
+			" LEFT JOIN @.ended e ON true",
 		askChains: "SELECT text, (extract(epoch FROM until) * 1000000)::bigint FROM @.chains WHERE key = $1 ORDER BY until, digest",
 		askKeep:   "SELECT @.keep($1, $2, $3, $4, $5)",
 	} {
@@ -232,16 +234,17 @@ func octetsIn(value driver.Value) []byte {
 	return append([]byte(nil), octets...)
 }
 
-// rows returns the entries for a key, by its digests by SHA-1, SHA-256 and SHA-512, in this order. Behind the state a row has the number and the text of an
-// entry, or NULL for both if there is none. It fails as pool.ask does, or with errVersion.
+// rows returns the entries for a key, by its digests by SHA-1, SHA-256 and SHA-512, in this order. Behind the state a row has the time of the last
+// change, and the number and the text of an entry, or NULL for both if there is none. It fails as pool.ask does, or with errVersion.
 func (p *pool) rows(digests [][]byte) (rows entryRows, err error) {
 	hasState := false
 	err = p.ask(askRows, func(row []driver.Value) (err error) {
 		rows.storeState, err = stateIn(row)
 		hasState = true
-		if number, isThere := row[4].(int64); isThere {
+		rows.token, _ = row[4].(int64)
+		if number, isThere := row[5].(int64); isThere {
 			rows.numbers = append(rows.numbers, int(number))
-			rows.texts = append(rows.texts, octetsIn(row[5]))
+			rows.texts = append(rows.texts, octetsIn(row[6]))
 		}
 		return err
 	}, digests[0], digests[1], digests[2])
@@ -256,12 +259,13 @@ func requireState(hasState bool, err error) error {
 	return err
 }
 
-// changesSince returns the changes after the one with a number. `first` is the time of that one, or 0 if it is gone; the token of the state, which tells
-// one history from another, is the time of the last change that is read; `isCut` says that there are more. Behind the state a row has the number, the
-// time, the kind and the digest of a change. The statement also reads the change with that number, and one more than a poll takes. It fails as pool.ask
-// does, or with errVersion.
+// changesSince returns the changes after the one with a number. `times` has the times of these and of that one, if it is not gone; the token of the
+// state, which tells one history from another, is the time of the last change that is read; `isCut` says that there are more. Behind the state a row
+// has the number, the time, the kind and the digest of a change. The statement also reads the change with that number, and one more than a poll
+// takes. It fails as pool.ask does, or with errVersion.
 func (p *pool) changesSince(number int64) (result pollResult, err error) {
 	hasState, count := false, 0
+	result.times = map[int64]int64{}
 	err = p.ask(askChangesSince, func(row []driver.Value) (err error) {
 		result.storeState, err = stateIn(row)
 		hasState = true
@@ -272,8 +276,8 @@ func (p *pool) changesSince(number int64) (result pollResult, err error) {
 		moment, _ := row[5].(int64)
 		// (the rows come in the order of their numbers: the last one has the time of the last change, unless isCut, when pollOnce asks `allEnded`)
 		result.token = moment
+		result.times[changeNumber] = moment
 		if changeNumber == number {
-			result.first = moment
 			return err
 		}
 		count++

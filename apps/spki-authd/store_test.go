@@ -82,13 +82,14 @@ func (t *table) rows(digests [][]byte) (rows entryRows, err error) {
 	return rows, t.fault
 }
 
-// changesSince returns the changes after the one with a number, and the time of that one, or 0 if there is no such change.
+// changesSince returns the changes after the one with a number, and the times of these and of that one, if there is such a change.
 func (t *table) changesSince(number int64) (pollResult, error) {
-	result := pollResult{storeState: t.state}
+	result := pollResult{storeState: t.state, times: map[int64]int64{}}
 	if number > 0 && number <= t.state.changes {
-		result.first = t.changes[number-1].token
+		result.times[number] = t.changes[number-1].token
 	}
 	for place := number; place < t.state.changes; place++ {
+		result.times[place+1] = t.changes[place].token
 		if each := t.changes[place]; each.ended != nil {
 			result.ended = append(result.ended, *each.ended)
 		} else {
@@ -318,6 +319,38 @@ func TestStoreThatGoesBack(t *testing.T) {
 	s.table.changes[2].token, s.table.state.token = 1000, 1000
 	s.beat()
 	s.expectAlice(t, "another history", 200)
+}
+
+// TestLostChange reads rows after a change that no poll has read yet: Mallory's entry is added. Then it polls a server of three kinds: one that has
+// lost this change, one that has another change of this number, and one that has it. Only by the last one the entry still grants, and Alice's rows,
+// which were read after the change too, are not read again.
+func TestLostChange(t *testing.T) {
+	for name, wanted := range map[string]int{"lost": 401, "another": 401, "there": 200} {
+		s := newStored(t)
+		polled := s.table.state
+		s.table.put(8, s.mallory.key, s.entryOf(s.mallory))
+		if status := s.statusFor(s.mallory, "/web/x", ""); status != 200 {
+			t.Errorf("%s: %d before the poll", name, status)
+		}
+		s.expectAlice(t, name+", before the poll", 200)
+		if wanted != 200 {
+			delete(s.table.texts, 8)
+			s.table.changes, s.table.state = s.table.changes[:polled.changes], polled
+		}
+		if name == "another" {
+			// (at another time than the lost change)
+			s.table.state.token++
+			s.table.put(9, s.bob.key, s.entryOf(s.bob))
+		}
+		s.beat()
+		if status := s.statusFor(s.mallory, "/web/x", ""); status != wanted {
+			t.Errorf("%s: %d after the poll", name, status)
+		}
+		reads := s.table.reads
+		if s.expectAlice(t, name+", after the poll", 200); (s.table.reads == reads) != (wanted == 200) {
+			t.Errorf("%s: %d reads", name, s.table.reads-reads)
+		}
+	}
 }
 
 // newStoredWithChains returns a storedSite at which clients can leave certificates, which its table keeps.
