@@ -86,7 +86,7 @@ func openReader(options *storeSettings, patience time.Duration) (reader, error) 
 	for count := 0; count < options.Connections; count++ {
 		opened.slots <- nil
 	}
-	// (one row more than mostRows shows openRows that there are too many. mostChanges+2 is for the change $1 itself, and for one more than a poll takes)
+	// (one row more than mostRows shows that there are too many. mostChanges+2 is for the change $1 itself, and for one more than a poll takes)
 	for ask, text := range map[int]string{
 		askRows: "SELECT " + stateColumns + ", " + microseconds + ", e.number, e.text FROM " + stateTables + lastChange + " LEFT JOIN LATERAL (" +
 			rowsOf(sha1.Size, 1) + " UNION ALL " + rowsOf(sha256.Size, 2) + " UNION ALL " + rowsOf(sha512.Size, 3) +
@@ -165,7 +165,7 @@ func (p *pool) take() (*link, error) {
 
 // ask runs the statement with a number such as askRows and these values of its parameters, and calls a function with each of its rows. The row's values are
 // valid during that call alone. It fails as take does. It also fails, closes the connection and renews the others, if the function fails, or if the
-// server refuses the statement or does not answer within p.patience.
+// server refuses the statement or does not answer within p.patience. After errMany it renews none.
 func (p *pool) ask(number int, use func(row []driver.Value) error, values ...driver.Value) error {
 	link, err := p.take()
 	if err != nil {
@@ -174,8 +174,11 @@ func (p *pool) ask(number int, use func(row []driver.Value) error, values ...dri
 	if err = link.ask(number, p.texts[number], use, values); err != nil {
 		link.Close()
 		link = nil
-		// (nothing polls the pool of `chains`, so without this each of its connections to a server that is gone would fail a request)
-		p.renew()
+		// (nothing polls the pool of `chains`, so without this each of its connections to a server that is gone would fail a request. A server that has
+		// too many rows for a key is there)
+		if !errors.Is(err, errMany) {
+			p.renew()
+		}
 	}
 	p.slots <- link
 	return err
@@ -235,16 +238,16 @@ func octetsIn(value driver.Value) []byte {
 }
 
 // rows returns the entries for a key, by its digests by SHA-1, SHA-256 and SHA-512, in this order. Behind the state a row has the time of the last
-// change, and the number and the text of an entry, or NULL for both if there is none. It fails as pool.ask does, or with errVersion.
+// change, and the number and the text of an entry, or NULL for both if there is none. It fails as pool.ask or entryRows.add does, or with errVersion.
 func (p *pool) rows(digests [][]byte) (rows entryRows, err error) {
 	hasState := false
 	err = p.ask(askRows, func(row []driver.Value) (err error) {
 		rows.storeState, err = stateIn(row)
 		hasState = true
 		rows.token, _ = row[4].(int64)
-		if number, isThere := row[5].(int64); isThere {
-			rows.numbers = append(rows.numbers, int(number))
-			rows.texts = append(rows.texts, octetsIn(row[6]))
+		if number, isThere := row[5].(int64); isThere && err == nil {
+			text, _ := row[6].([]byte)
+			err = rows.add(int(number), text)
 		}
 		return err
 	}, digests[0], digests[1], digests[2])

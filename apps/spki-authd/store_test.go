@@ -70,8 +70,8 @@ func (t *table) rows(digests [][]byte) (rows entryRows, err error) {
 	rows.storeState = t.state
 	for number := 0; number < 100; number++ {
 		for _, digest := range digests {
-			if t.texts[number] != "" && t.keyDigests[number] == string(digest) {
-				rows.numbers, rows.texts = append(rows.numbers, number), append(rows.texts, []byte(t.texts[number]))
+			if t.texts[number] != "" && t.keyDigests[number] == string(digest) && err == nil {
+				err = rows.add(number, []byte(t.texts[number]))
 			}
 		}
 	}
@@ -79,7 +79,10 @@ func (t *table) rows(digests [][]byte) (rows entryRows, err error) {
 		t.meanwhile = nil
 		meanwhile()
 	}
-	return rows, t.fault
+	if t.fault != nil {
+		err = t.fault
+	}
+	return rows, err
 }
 
 // changesSince returns the changes after the one with a number, and the times of these and of that one, if there is such a change.
@@ -442,6 +445,21 @@ func TestHostileRows(t *testing.T) {
 			wanted = 200
 		}
 		s.expectAlice(t, fmt.Sprintf("%.40q", text), wanted)
+	}
+}
+
+// TestMostRows adds as many entries as one principal may have, and then as many octets. With one more of either it has too many.
+func TestMostRows(t *testing.T) {
+	for _, each := range []struct{ count, octets int }{{mostRows, 1}, {1, mostList - len("(3:acl)")}} {
+		var rows entryRows
+		for number := 0; number < each.count; number++ {
+			if err := rows.add(number, make([]byte, each.octets)); err != nil {
+				t.Fatal(number, err)
+			}
+		}
+		if err := rows.add(each.count, []byte("x")); !errors.Is(err, errMany) || len(rows.texts) != each.count {
+			t.Errorf("%d of %d octets: %v", each.count, each.octets, err)
+		}
 	}
 }
 
