@@ -12,6 +12,7 @@ import (
 	"errors"
 	"io"
 	"math/rand"
+	"net"
 	"os"
 	"strconv"
 	"strings"
@@ -355,6 +356,49 @@ func TestPoolRenews(t *testing.T) {
 	}
 	if !gone.isClosed || !other.isClosed || other.ran != nil || !ofList.isClosed || ofList.ran != nil || elsewhere.isClosed || len(elsewhere.ran) != 1 {
 		t.Errorf("%+v %+v %+v %+v", gone, other, ofList, elsewhere)
+	}
+}
+
+// TestPoolInTime has two calls wait for the only connection of a pool, to a server that says something again and again, and never that it is ready.
+// Both calls fail once the patience is over.
+func TestPoolInTime(t *testing.T) {
+	const patience, every = time.Second, 100 * time.Millisecond
+	folder := t.TempDir()
+	listener, err := net.Listen("unix", folder+"/.s.PGSQL.4")
+	if err != nil {
+		t.Fatal(err)
+	}
+	defer listener.Close()
+	go func() {
+		for {
+			connection, err := listener.Accept()
+			if err != nil {
+				return
+			}
+			go func() {
+				defer connection.Close()
+				// (`S` is the status of a parameter: here of `a`, which is `b`. It ends at last, so that the test does)
+				for begun := time.Now(); err == nil && time.Since(begun) < 5*patience; time.Sleep(every) {
+					_, err = connection.Write([]byte("S\x00\x00\x00\x08a\x00b\x00"))
+				}
+			}()
+		}
+	}()
+	reader, err := openReader(&storeSettings{Host: folder, Port: 4, Database: "d", User: "u", Connections: 1}, patience)
+	if err != nil {
+		t.Fatal(err)
+	}
+	begun, faults := time.Now(), make(chan error)
+	for count := 0; count < 2; count++ {
+		go func() {
+			_, err := reader.rows(digestsOf(nil))
+			faults <- err
+		}()
+	}
+	first, second := <-faults, <-faults
+	// (up to twice the patience, for a busy machine)
+	if took := time.Since(begun); first == nil || second == nil || took > 2*patience {
+		t.Errorf("%v, %v after %v", first, second, took)
 	}
 }
 

@@ -26,7 +26,7 @@ import (
 // A pool is the reader of a store in PostgreSQL: it has connections to the server. A slot is an open connection, or nil for one that is not open.
 type pool struct {
 	connector *pq.Connector
-	// How long the pool waits for a free slot, until it is connected, and for each read and each write of a connection.
+	// How long a call may take. One of a poll may take longer: see ask.
 	patience time.Duration
 	slots    chan *link
 	// The SQL of each statement, by its number: askRows to askKeep.
@@ -40,10 +40,12 @@ type pool struct {
 var renewalsAt sync.Map
 
 // A link is a connection, its prepared statements by their numbers, which are nil until they are used, and the pool's `renewals` when it was opened.
+// What it is asked must be answered by `until`. While a poll uses it that is zero: then each read and each write has the pool's patience.
 type link struct {
 	driver.Conn
 	statements [asks]driver.Stmt
 	renewals   int64
+	until      time.Time
 }
 
 // The numbers of the statements, each named by the method of reader that uses it, and how many there are.
@@ -73,14 +75,13 @@ const (
 	lastChange   = " LEFT JOIN @.changes c ON c.number = s.changes"
 )
 
-// openReader returns what reads a store, and waits no longer than `patience` for a free connection, to connect, and for each read and each write. It
-// connects when it is asked first. The error says that the settings are wrong.
+// openReader returns what reads a store. A call takes no longer than `patience`, from the wait for a free connection on. A poll waits no longer than
+// that until it is connected, and for each read and each write. It connects when it is asked first. The error says that the settings are wrong.
 func openReader(options *storeSettings, patience time.Duration) (reader, error) {
 	connector, err := pq.NewConnector(options.connectionString())
 	if err != nil {
 		return nil, err
 	}
-	connector.Dialer(dialer{patience})
 	renewals, _ := renewalsAt.LoadOrStore(fmt.Sprintf("%s:%d", options.Host, options.Port), new(atomic.Int64))
 	opened := &pool{connector: connector, patience: patience, slots: make(chan *link, options.Connections), renewals: renewals.(*atomic.Int64)}
 	for count := 0; count < options.Connections; count++ {
@@ -111,23 +112,24 @@ func rowsOf(octets, parameter int) string {
 	return fmt.Sprintf("SELECT number, text FROM @.entries WHERE octet_length(principal) = %d AND principal = $%d", octets, parameter)
 }
 
-// A dialer opens patient connections for the driver.
+// A dialer opens the patient connection of a link for the driver.
 type dialer struct {
 	patience time.Duration
+	link     *link
 }
 
-// Dial connects, and fails if that takes longer than the dialer's patience.
+// Dial connects, and fails if that takes longer than until d.link.until.
 func (d dialer) Dial(network, address string) (net.Conn, error) {
-	return d.DialTimeout(network, address, d.patience)
-}
-
-// DialTimeout connects, and fails if that takes longer than the dialer's patience, whatever time the driver gives.
-func (d dialer) DialTimeout(network, address string, _ time.Duration) (net.Conn, error) {
-	connection, err := net.DialTimeout(network, address, d.patience)
+	connection, err := (&net.Dialer{Deadline: d.link.until}).Dial(network, address)
 	if err != nil {
 		return nil, err
 	}
-	return &patient{connection, d.patience}, nil
+	return &patient{connection, d.patience, d.link}, nil
+}
+
+// DialTimeout connects as Dial does, whatever time the driver gives.
+func (d dialer) DialTimeout(network, address string, _ time.Duration) (net.Conn, error) {
+	return d.Dial(network, address)
 }
 
 // renew has take close each connection to p's host and port that is open now, also one that works or is of another pool, and open a new one in its
@@ -138,9 +140,9 @@ func (p *pool) renew() {
 }
 
 // take takes a connection from a slot, or opens a new one. The caller puts it into p.slots again, or nil after closing it. It fails if no slot is free
-// within p.patience, or if it cannot connect. Then the caller puts nothing back.
+// within p.patience, or if it cannot connect by then. Then the caller puts nothing back. What the connection is asked must be answered by then too.
 func (p *pool) take() (*link, error) {
-	timer := time.NewTimer(p.patience)
+	until, timer := time.Now().Add(p.patience), time.NewTimer(p.patience)
 	defer timer.Stop()
 	var taken *link
 	select {
@@ -149,27 +151,34 @@ func (p *pool) take() (*link, error) {
 		return nil, errors.New("no connection is free")
 	}
 	renewals := p.renewals.Load()
-	if taken != nil && taken.renewals == renewals {
-		return taken, nil
-	}
 	if taken != nil {
+		taken.until = until
+		if taken.renewals == renewals {
+			return taken, nil
+		}
 		taken.Close()
 	}
-	opened, err := p.connector.Connect(context.Background())
-	if err != nil {
+	opened, connector := &link{renewals: renewals, until: until}, *p.connector
+	connector.Dialer(dialer{p.patience, opened})
+	var err error
+	if opened.Conn, err = connector.Connect(context.Background()); err != nil {
 		p.slots <- nil
 		return nil, err
 	}
-	return &link{Conn: opened, renewals: renewals}, nil
+	return opened, nil
 }
 
 // ask runs the statement with a number such as askRows and these values of its parameters, and calls a function with each of its rows. The row's values are
 // valid during that call alone. It fails as take does. It also fails, closes the connection and renews the others, if the function fails, or if the
-// server refuses the statement or does not answer within p.patience. After errMany it renews none.
+// server refuses the statement or does not answer within p.patience of the call. After errMany it renews none.
 func (p *pool) ask(number int, use func(row []driver.Value) error, values ...driver.Value) error {
 	link, err := p.take()
 	if err != nil {
 		return err
+	}
+	if number == askChangesSince || number == askAllEnded {
+		// (no request waits for a poll, which may have millions of ended certificates to read)
+		link.until = time.Time{}
 	}
 	if err = link.ask(number, p.texts[number], use, values); err != nil {
 		link.Close()
