@@ -334,7 +334,7 @@ func (p *polledState) age(now time.Time) (time.Duration, error) {
 	return age, nil
 }
 
-// hasEnded says whether the store has the digest of a certificate as ended early.
+// hasEnded says whether the store had the digest of a certificate as ended early when it was polled last. Rows may be of a later state.
 func (s *store) hasEnded(certificate digest) bool {
 	s.mutex.RLock()
 	defer s.mutex.RUnlock()
