@@ -131,8 +131,10 @@ func (s *storeSettings) connectionString() string {
 			settings = append(settings, name+"="+quoteSetting(value))
 		}
 	}
-	// (the last three: a statement is planned once and not compiled, and a plan from when the table was small must not read the whole table later)
-	return strings.Join(append(settings, fmt.Sprintf("port=%d", s.Port), "application_name=spki-authd", "enable_seqscan=off", "jit=off", "plan_cache_mode=force_generic_plan"), " ")
+	// (by the search path no function or operator is used that an account has made in another schema, such as public. The last three: a statement is
+	// planned once and not compiled, and a plan from when the table was small must not read the whole table later)
+	return strings.Join(append(settings, fmt.Sprintf("port=%d", s.Port), "application_name=spki-authd", "search_path=pg_catalog",
+		"enable_seqscan=off", "jit=off", "plan_cache_mode=force_generic_plan"), " ")
 }
 
 // quoteSetting returns a value for a connection string: in single quotes, with a backslash before each quote and backslash in it.

@@ -37,6 +37,9 @@ type store struct {
 	fault error
 	// The lists of entries that were read, by key.
 	kept *keptLists
+	// The states of those that were read at a change after the last one that was polled, by the digest of the key. noteResult drops such a list if
+	// the next poll does not read that change too.
+	unpolled map[digest]storeState
 	// The digests of the certificates that have ended early.
 	ended map[digest]struct{}
 	count storeCounts
@@ -45,7 +48,7 @@ type store struct {
 // A reader asks the database. Each call but renew is one statement, and so reads one state. It fails if the database refuses it or does not answer in
 // time, and the first three also if the store has another version.
 type reader interface {
-	// rows returns the entries for a key, and the state. `digests` are those that digestsOf returns for the key.
+	// rows returns the entries for a key, and the state. `digests` are those that digestsOf returns for the key. It also fails as entryRows.add does.
 	rows(digests [][]byte) (entryRows, error)
 	// changesSince returns the changes after the one with this number, the time of that one, and the state.
 	changesSince(number int64) (pollResult, error)
@@ -67,19 +70,21 @@ type storeState struct {
 	changes, token, beat, beaten int64
 }
 
-// entryRows are entries in the order of their numbers: the numbers, and the texts, each that of one entry in canonical form if the database is right.
+// entryRows are entries in the order of their numbers: the numbers, the texts, each that of one entry in canonical form if the database is right, and
+// how many octets the texts have together.
 type entryRows struct {
 	storeState
 	numbers []int
 	texts   [][]byte
+	size    int
 }
 
 // A pollResult is what `changesSince` or `allEnded` returns. Of changes, `changed` has the digests of the keys whose entries have changed, and
 // `ended` the certificates that have ended. isCut says that there were more changes than one poll reads.
 type pollResult struct {
 	storeState
-	// The time of the change with the number that `changesSince` was given, or 0 if there is no such change.
-	first   int64
+	// The times of the changes that `changesSince` read, by their numbers: also of the change with the number that it was given, if there is one.
+	times   map[int64]int64
 	changed [][]byte
 	ended   []digest
 	isCut   bool
@@ -125,7 +130,7 @@ func newStore(options *storeSettings, reader reader, open func(list []byte) (*gu
 		return nil, err
 	}
 	return &store{options: options, reader: reader, open: open, empty: empty, now: now, firsts: newRecentMap[string, string](mostShown),
-		kept: newKeptLists(*options.CacheMiB << 20), ended: map[digest]struct{}{}, fault: errNever}, nil
+		kept: newKeptLists(*options.CacheMiB << 20), unpolled: map[digest]storeState{}, ended: map[digest]struct{}{}, fault: errNever}, nil
 }
 
 // list returns a list of the entries that a question can need: one that is kept, or a new one. The caller closes its guard if it isPassing. It fails as
@@ -192,8 +197,8 @@ func (s *store) firstKeyIn(question *guard.Question) (first string, err error) {
 }
 
 // read reads the entries for a key from the database, and returns the list of them. `keyDigest` is the key's digest. The list is kept if it is not
-// too large, and if no later state and no other history was polled meanwhile; otherwise it isPassing. It fails with errOlder if the database's state
-// is older than the last poll's, and as reader.rows and openRows do.
+// too large, and if no later state and no other history was polled meanwhile; otherwise it isPassing. If it is of a later state than was polled, the
+// next poll says whether it stays. It fails with errOlder if the database's state is older than the last poll's, and as reader.rows and openRows do.
 func (s *store) read(keyDigest digest, key []byte) (*list, error) {
 	before := s.lastPolled()
 	digests := digestsOf(key)
@@ -204,38 +209,45 @@ func (s *store) read(keyDigest digest, key []byte) (*list, error) {
 	if rows.changes < before.changes || rows.beat < before.beat {
 		return nil, errOlder
 	}
-	opened, size, err := s.openRows(rows)
+	opened, err := s.openRows(rows)
 	if err != nil {
 		return nil, err
 	}
 	s.mutex.Lock()
 	defer s.mutex.Unlock()
-	isPresent := s.polled.history == before.history && rows.changes >= s.polled.changes
-	opened.isPassing = !isPresent || !s.kept.add(keyDigest, digests, opened, size)
+	isLater := rows.changes > s.polled.changes
+	isPresent := s.polled.history == before.history && (isLater || rows.changes == s.polled.changes && rows.token == s.polled.token)
+	opened.isPassing = !isPresent || !s.kept.add(keyDigest, digests, opened, rows.size)
+	if isLater && !opened.isPassing {
+		s.unpolled[keyDigest] = rows.storeState
+	}
 	return opened, nil
 }
 
-// openRows returns the list of entries that were read, and how many octets these have together. It fails with errHostile if a row is not exactly one
-// entry or the library refuses the list, with errMany if they are too many or too long, with guard.ErrMemory, and with errBusy if too many questions
-// are decided at once.
-func (s *store) openRows(rows entryRows) (*list, int, error) {
-	size := 0
+// add adds an entry, with a copy of its text. It fails with errMany if that makes too many entries, or too many octets for one list. The reader then
+// reads no further row: nobody can fill the memory by adding entries.
+func (r *entryRows) add(number int, text []byte) error {
+	r.size += len(text)
+	// (store.openRows puts the entries into `(3:acl ..)`)
+	if len(r.numbers) == mostRows || r.size > mostList-len("(3:acl)") {
+		return errMany
+	}
+	r.numbers, r.texts = append(r.numbers, number), append(r.texts, append([]byte(nil), text...))
+	return nil
+}
+
+// openRows returns the list of entries that were read. It fails with errHostile if a row is not exactly one entry or the library refuses the list,
+// with guard.ErrMemory, and with errBusy if too many questions are decided at once.
+func (s *store) openRows(rows entryRows) (*list, error) {
+	joined := make([]byte, 0, rows.size)
 	for _, text := range rows.texts {
 		if !bytes.HasPrefix(text, []byte("(5:entry")) {
-			return nil, 0, errHostile
+			return nil, errHostile
 		}
-		size += len(text)
-	}
-	// (s.open puts the entries into `(3:acl ..)`)
-	if len(rows.texts) > mostRows || size > mostList-len("(3:acl)") {
-		return nil, 0, errMany
-	}
-	joined := make([]byte, 0, size)
-	for _, text := range rows.texts {
 		joined = append(joined, text...)
 	}
 	if err := library.enter(); err != nil {
-		return nil, 0, err
+		return nil, err
 	}
 	defer library.leave()
 	opened, err := s.open(joined)
@@ -243,13 +255,13 @@ func (s *store) openRows(rows entryRows) (*list, int, error) {
 		err = fmt.Errorf("%w: %v", errHostile, err)
 	}
 	if err != nil {
-		return nil, 0, err
+		return nil, err
 	}
 	if opened.Entries() != len(rows.numbers) {
 		opened.Close()
-		return nil, 0, errHostile
+		return nil, errHostile
 	}
-	return &list{guard: opened, numbers: rows.numbers, digest: fmt.Sprintf("change %d", rows.changes)}, size, nil
+	return &list{guard: opened, numbers: rows.numbers, digest: fmt.Sprintf("change %d", rows.changes)}, nil
 }
 
 // digestsOf returns three digests of a key, which is in canonical form: by SHA-1, SHA-256 and SHA-512, in this order. In the database the principal
@@ -322,7 +334,7 @@ func (p *polledState) age(now time.Time) (time.Duration, error) {
 	return age, nil
 }
 
-// hasEnded says whether the store has the digest of a certificate as ended early.
+// hasEnded says whether the store had the digest of a certificate as ended early when it was polled last. Rows may be of a later state.
 func (s *store) hasEnded(certificate digest) bool {
 	s.mutex.RLock()
 	defer s.mutex.RUnlock()

@@ -9,8 +9,10 @@ package main
 import (
 	"database/sql/driver"
 	"encoding/hex"
+	"errors"
 	"io"
 	"math/rand"
+	"net"
 	"os"
 	"strconv"
 	"strings"
@@ -260,12 +262,13 @@ func isThere(path string) bool {
 	return err == nil
 }
 
-// A fakeConn is a connection whose statements have no rows. It counts those that are open.
+// A fakeConn is a connection whose statements are not run. It counts those that are open.
 type fakeConn struct {
 	driver.Conn
 	open int
-	// The texts of the statements that were run, in order.
-	ran []string
+	// The texts of the statements that were run, in order, and the rows that each returns, or nil for none.
+	ran  []string
+	rows driver.Rows
 	// Why it opens no statement, or nil, and whether it was closed.
 	fault    error
 	isClosed bool
@@ -290,9 +293,12 @@ type fakeStatement struct {
 // Close closes the statement.
 func (s *fakeStatement) Close() error { s.conn.open--; return nil }
 
-// Query runs the statement, which returns no rows.
+// Query returns the rows of the connection.
 func (s *fakeStatement) Query([]driver.Value) (driver.Rows, error) {
 	s.conn.ran = append(s.conn.ran, s.text)
+	if s.conn.rows != nil {
+		return s.conn.rows, nil
+	}
 	return noRows{}, nil
 }
 
@@ -340,9 +346,9 @@ func newPoolOf(t *testing.T, folder string, port int, connections ...*fakeConn) 
 	return opened
 }
 
-// TestFailedStatementRenews has a statement fail on one of the two connections of a pool, as after a failover. The other one is closed before it is
+// TestPoolRenews has a statement fail on one of the two connections of a pool, as after a failover. The other one is closed before it is
 // used, and so is one of another pool for the same server. One to another server is used.
-func TestFailedStatementRenews(t *testing.T) {
+func TestPoolRenews(t *testing.T) {
 	folder, gone, other, ofList, elsewhere := t.TempDir(), &fakeConn{fault: io.ErrUnexpectedEOF}, new(fakeConn), new(fakeConn), new(fakeConn)
 	ofChains := newPoolOf(t, folder, 1, gone, other)
 	for _, each := range []*pool{ofChains, ofChains, newPoolOf(t, folder, 1, ofList), newPoolOf(t, folder, 2, elsewhere)} {
@@ -350,6 +356,78 @@ func TestFailedStatementRenews(t *testing.T) {
 	}
 	if !gone.isClosed || !other.isClosed || other.ran != nil || !ofList.isClosed || ofList.ran != nil || elsewhere.isClosed || len(elsewhere.ran) != 1 {
 		t.Errorf("%+v %+v %+v %+v", gone, other, ofList, elsewhere)
+	}
+}
+
+// TestPoolInTime has two calls wait for the only connection of a pool, to a server that says something again and again, and never that it is ready.
+// Both calls fail once the patience is over.
+func TestPoolInTime(t *testing.T) {
+	const patience, every = time.Second, 100 * time.Millisecond
+	folder := t.TempDir()
+	listener, err := net.Listen("unix", folder+"/.s.PGSQL.4")
+	if err != nil {
+		t.Fatal(err)
+	}
+	defer listener.Close()
+	go func() {
+		for {
+			connection, err := listener.Accept()
+			if err != nil {
+				return
+			}
+			go func() {
+				defer connection.Close()
+				// (`S` is the status of a parameter: here of `a`, which is `b`. It ends at last, so that the test does)
+				for begun := time.Now(); err == nil && time.Since(begun) < 5*patience; time.Sleep(every) {
+					_, err = connection.Write([]byte("S\x00\x00\x00\x08a\x00b\x00"))
+				}
+			}()
+		}
+	}()
+	reader, err := openReader(&storeSettings{Host: folder, Port: 4, Database: "d", User: "u", Connections: 1}, patience)
+	if err != nil {
+		t.Fatal(err)
+	}
+	begun, faults := time.Now(), make(chan error)
+	for count := 0; count < 2; count++ {
+		go func() {
+			_, err := reader.rows(digestsOf(nil))
+			faults <- err
+		}()
+	}
+	first, second := <-faults, <-faults
+	// (up to twice the patience, for a busy machine)
+	if took := time.Since(begun); first == nil || second == nil || took > 2*patience {
+		t.Errorf("%v, %v after %v", first, second, took)
+	}
+}
+
+// endlessRows are rows of askRows, each with a text of half a MiB, and there is always one more. `count` is how many were read.
+type endlessRows struct {
+	noRows
+	count int64
+}
+
+// Columns returns seven names, as many as a row of askRows has columns.
+func (*endlessRows) Columns() []string { return make([]string, 7) }
+
+// Next reads a row.
+func (r *endlessRows) Next(row []driver.Value) error {
+	r.count++
+	copy(row, []driver.Value{int64(storeVersion), int64(1), int64(1), int64(1), int64(1), r.count, make([]byte, 1<<19)})
+	return nil
+}
+
+// TestPoolOfManyRows reads rows without end. They are read until they have over 1 MiB, and their connection is closed, and no other one.
+func TestPoolOfManyRows(t *testing.T) {
+	endless, many, other := new(endlessRows), new(fakeConn), new(fakeConn)
+	many.rows = endless
+	pool := newPoolOf(t, t.TempDir(), 3, many, other)
+	if _, err := pool.rows(digestsOf(nil)); !errors.Is(err, errMany) || endless.count != 2 {
+		t.Errorf("%v after %d rows", err, endless.count)
+	}
+	if _, err := pool.chains(digest{}); err != nil || !many.isClosed || other.isClosed {
+		t.Errorf("%v %+v %+v", err, many, other)
 	}
 }
 

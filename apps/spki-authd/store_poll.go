@@ -27,7 +27,8 @@ func (s *store) pollOnce() error {
 	if !before.at.IsZero() {
 		result, err = s.reader.changesSince(before.changes)
 		// (another time of the same change is another history, and fewer changes or beats are an older state)
-		follows = err == nil && !result.isCut && result.first == before.token && result.changes >= before.changes && result.beat >= before.beat
+		follows = err == nil && !result.isCut && result.times[before.changes] == before.token && result.changes >= before.changes &&
+			result.beat >= before.beat
 	}
 	if err == nil && !follows {
 		begun = s.now()
@@ -44,8 +45,9 @@ func (s *store) pollOnce() error {
 	return nil
 }
 
-// noteResult notes the result of a poll that was begun at a moment. `follows` says that these are the changes since the poll before. Otherwise the result
-// has all ended certificates, and replaces what was polled before. The mutex is held.
+// noteResult notes the result of a poll that was begun at a moment. `follows` says that these are the changes since the poll before. Otherwise the
+// result has all ended certificates, and replaces what was polled before. Lists that were read at a later change than the one that was polled before
+// are dropped if this poll has not read that change. The mutex is held.
 func (s *store) noteResult(result pollResult, begun time.Time, follows bool) {
 	s.fault = nil
 	if !follows {
@@ -59,6 +61,13 @@ func (s *store) noteResult(result pollResult, begun time.Time, follows bool) {
 	for _, each := range result.changed {
 		s.kept.drop(each)
 	}
+	for keyDigest, state := range s.unpolled {
+		// (without this change, or with another one of its number, this is another server than that which was read, as after a failover)
+		if moment, isRead := result.times[state.changes]; !isRead || moment != state.token {
+			s.kept.drop(keyDigest[:])
+		}
+	}
+	s.unpolled = map[digest]storeState{}
 	// (`at` is when a poll first read the present beat. Round(0) drops the monotonic clock: the lag is by the time of day)
 	if s.polled.at.IsZero() || result.beat != s.polled.beat || result.beaten != s.polled.beaten {
 		s.polled.at, s.polled.lag = begun, begun.Round(0).Sub(time.UnixMicro(result.beaten))

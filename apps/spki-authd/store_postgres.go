@@ -26,7 +26,7 @@ import (
 // A pool is the reader of a store in PostgreSQL: it has connections to the server. A slot is an open connection, or nil for one that is not open.
 type pool struct {
 	connector *pq.Connector
-	// How long the pool waits for a free slot, until it is connected, and for each read and each write of a connection.
+	// How long a call may take. One of a poll may take longer: see ask.
 	patience time.Duration
 	slots    chan *link
 	// The SQL of each statement, by its number: askRows to askKeep.
@@ -40,10 +40,12 @@ type pool struct {
 var renewalsAt sync.Map
 
 // A link is a connection, its prepared statements by their numbers, which are nil until they are used, and the pool's `renewals` when it was opened.
+// What it is asked must be answered by `until`. While a poll uses it that is zero: then each read and each write has the pool's patience.
 type link struct {
 	driver.Conn
 	statements [asks]driver.Stmt
 	renewals   int64
+	until      time.Time
 }
 
 // The numbers of the statements, each named by the method of reader that uses it, and how many there are.
@@ -64,36 +66,37 @@ const (
 
 var errVersion = errors.New("the store is of another version than this daemon reads")
 
-// Parts of the statements: the columns of a state, the tables that have them, and the time of a change in microseconds since 1970. `@` is the schema.
-// Each of the two tables has one row, in which `one` is true.
+// Parts of the statements: the columns of a state, the tables that have them, the time of a change in microseconds since 1970, and the join with the
+// last change. `@` is the schema. Each of the two tables has one row, in which `one` is true.
 const (
 	stateColumns = "s.version, s.changes, b.number, (extract(epoch FROM b.moment) * 1000000)::bigint"
 	stateTables  = "@.state s JOIN @.heartbeat b ON s.one AND b.one"
 	microseconds = "(extract(epoch FROM c.moment) * 1000000)::bigint"
+	lastChange   = " LEFT JOIN @.changes c ON c.number = s.changes"
 )
 
-// openReader returns what reads a store, and waits no longer than `patience` for a free connection, to connect, and for each read and each write. It
-// connects when it is asked first. The error says that the settings are wrong.
+// openReader returns what reads a store. A call takes no longer than `patience`, from the wait for a free connection on. A poll waits no longer than
+// that until it is connected, and for each read and each write. It connects when it is asked first. The error says that the settings are wrong.
 func openReader(options *storeSettings, patience time.Duration) (reader, error) {
 	connector, err := pq.NewConnector(options.connectionString())
 	if err != nil {
 		return nil, err
 	}
-	connector.Dialer(dialer{patience})
 	renewals, _ := renewalsAt.LoadOrStore(fmt.Sprintf("%s:%d", options.Host, options.Port), new(atomic.Int64))
 	opened := &pool{connector: connector, patience: patience, slots: make(chan *link, options.Connections), renewals: renewals.(*atomic.Int64)}
 	for count := 0; count < options.Connections; count++ {
 		opened.slots <- nil
 	}
-	// (one row more than mostRows shows openRows that there are too many. mostChanges+2 is for the change $1 itself, and for one more than a poll takes)
+	// (one row more than mostRows shows that there are too many. mostChanges+2 is for the change $1 itself, and for one more than a poll takes)
 	for ask, text := range map[int]string{
-		askRows: "SELECT " + stateColumns + ", e.number, e.text FROM " + stateTables + " LEFT JOIN LATERAL (" + rowsOf(sha1.Size, 1) + " UNION ALL " +
-			rowsOf(sha256.Size, 2) + " UNION ALL " + rowsOf(sha512.Size, 3) + fmt.Sprintf(" LIMIT %d) e ON true ORDER BY e.number", mostRows+1),
+		askRows: "SELECT " + stateColumns + ", " + microseconds + ", e.number, e.text FROM " + stateTables + lastChange + " LEFT JOIN LATERAL (" +
+			rowsOf(sha1.Size, 1) + " UNION ALL " + rowsOf(sha256.Size, 2) + " UNION ALL " + rowsOf(sha512.Size, 3) +
+			fmt.Sprintf(" LIMIT %d) e ON true ORDER BY e.number", mostRows+1),
 		askChangesSince: "SELECT " + stateColumns + ", c.number, " + microseconds + ", c.what, c.digest FROM " + stateTables +
 			fmt.Sprintf(" LEFT JOIN LATERAL (SELECT * FROM (SELECT number, moment, what, digest FROM @.changes WHERE number >= $1 ORDER BY number LIMIT %d) l)"+
 				" c ON true ORDER BY c.number", mostChanges+2),
-		askAllEnded: "SELECT " + stateColumns + ", " + microseconds + ", e.certificate FROM " + stateTables +
-			" LEFT JOIN @.changes c ON c.number = s.changes LEFT JOIN @.ended e ON true",
+		askAllEnded: "SELECT " + stateColumns + ", " + microseconds + ", e.certificate FROM " + stateTables + lastChange +
+			" LEFT JOIN @.ended e ON true",
 		askChains: "SELECT text, (extract(epoch FROM until) * 1000000)::bigint FROM @.chains WHERE key = $1 ORDER BY until, digest",
 		askKeep:   "SELECT @.keep($1, $2, $3, $4, $5)",
 	} {
@@ -109,23 +112,24 @@ func rowsOf(octets, parameter int) string {
 	return fmt.Sprintf("SELECT number, text FROM @.entries WHERE octet_length(principal) = %d AND principal = $%d", octets, parameter)
 }
 
-// A dialer opens patient connections for the driver.
+// A dialer opens the patient connection of a link for the driver.
 type dialer struct {
 	patience time.Duration
+	link     *link
 }
 
-// Dial connects, and fails if that takes longer than the dialer's patience.
+// Dial connects, and fails if that takes longer than until d.link.until.
 func (d dialer) Dial(network, address string) (net.Conn, error) {
-	return d.DialTimeout(network, address, d.patience)
-}
-
-// DialTimeout connects, and fails if that takes longer than the dialer's patience, whatever time the driver gives.
-func (d dialer) DialTimeout(network, address string, _ time.Duration) (net.Conn, error) {
-	connection, err := net.DialTimeout(network, address, d.patience)
+	connection, err := (&net.Dialer{Deadline: d.link.until}).Dial(network, address)
 	if err != nil {
 		return nil, err
 	}
-	return &patient{connection, d.patience}, nil
+	return &patient{connection, d.patience, d.link}, nil
+}
+
+// DialTimeout connects as Dial does, whatever time the driver gives.
+func (d dialer) DialTimeout(network, address string, _ time.Duration) (net.Conn, error) {
+	return d.Dial(network, address)
 }
 
 // renew has take close each connection to p's host and port that is open now, also one that works or is of another pool, and open a new one in its
@@ -136,9 +140,9 @@ func (p *pool) renew() {
 }
 
 // take takes a connection from a slot, or opens a new one. The caller puts it into p.slots again, or nil after closing it. It fails if no slot is free
-// within p.patience, or if it cannot connect. Then the caller puts nothing back.
+// within p.patience, or if it cannot connect by then. Then the caller puts nothing back. What the connection is asked must be answered by then too.
 func (p *pool) take() (*link, error) {
-	timer := time.NewTimer(p.patience)
+	until, timer := time.Now().Add(p.patience), time.NewTimer(p.patience)
 	defer timer.Stop()
 	var taken *link
 	select {
@@ -147,33 +151,43 @@ func (p *pool) take() (*link, error) {
 		return nil, errors.New("no connection is free")
 	}
 	renewals := p.renewals.Load()
-	if taken != nil && taken.renewals == renewals {
-		return taken, nil
-	}
 	if taken != nil {
+		taken.until = until
+		if taken.renewals == renewals {
+			return taken, nil
+		}
 		taken.Close()
 	}
-	opened, err := p.connector.Connect(context.Background())
-	if err != nil {
+	opened, connector := &link{renewals: renewals, until: until}, *p.connector
+	connector.Dialer(dialer{p.patience, opened})
+	var err error
+	if opened.Conn, err = connector.Connect(context.Background()); err != nil {
 		p.slots <- nil
 		return nil, err
 	}
-	return &link{Conn: opened, renewals: renewals}, nil
+	return opened, nil
 }
 
 // ask runs the statement with a number such as askRows and these values of its parameters, and calls a function with each of its rows. The row's values are
 // valid during that call alone. It fails as take does. It also fails, closes the connection and renews the others, if the function fails, or if the
-// server refuses the statement or does not answer within p.patience.
+// server refuses the statement or does not answer within p.patience of the call. After errMany it renews none.
 func (p *pool) ask(number int, use func(row []driver.Value) error, values ...driver.Value) error {
 	link, err := p.take()
 	if err != nil {
 		return err
 	}
+	if number == askChangesSince || number == askAllEnded {
+		// (no request waits for a poll, which may have millions of ended certificates to read)
+		link.until = time.Time{}
+	}
 	if err = link.ask(number, p.texts[number], use, values); err != nil {
 		link.Close()
 		link = nil
-		// (nothing polls the pool of `chains`, so without this each of its connections to a server that is gone would fail a request)
-		p.renew()
+		// (nothing polls the pool of `chains`, so without this each of its connections to a server that is gone would fail a request. A server that has
+		// too many rows for a key is there)
+		if !errors.Is(err, errMany) {
+			p.renew()
+		}
 	}
 	p.slots <- link
 	return err
@@ -232,16 +246,17 @@ func octetsIn(value driver.Value) []byte {
 	return append([]byte(nil), octets...)
 }
 
-// rows returns the entries for a key, by its digests by SHA-1, SHA-256 and SHA-512, in this order. Behind the state a row has the number and the text of an
-// entry, or NULL for both if there is none. It fails as pool.ask does, or with errVersion.
+// rows returns the entries for a key, by its digests by SHA-1, SHA-256 and SHA-512, in this order. Behind the state a row has the time of the last
+// change, and the number and the text of an entry, or NULL for both if there is none. It fails as pool.ask or entryRows.add does, or with errVersion.
 func (p *pool) rows(digests [][]byte) (rows entryRows, err error) {
 	hasState := false
 	err = p.ask(askRows, func(row []driver.Value) (err error) {
 		rows.storeState, err = stateIn(row)
 		hasState = true
-		if number, isThere := row[4].(int64); isThere {
-			rows.numbers = append(rows.numbers, int(number))
-			rows.texts = append(rows.texts, octetsIn(row[5]))
+		rows.token, _ = row[4].(int64)
+		if number, isThere := row[5].(int64); isThere && err == nil {
+			text, _ := row[6].([]byte)
+			err = rows.add(int(number), text)
 		}
 		return err
 	}, digests[0], digests[1], digests[2])
@@ -256,12 +271,13 @@ func requireState(hasState bool, err error) error {
 	return err
 }
 
-// changesSince returns the changes after the one with a number. `first` is the time of that one, or 0 if it is gone; the token of the state, which tells
-// one history from another, is the time of the last change that is read; `isCut` says that there are more. Behind the state a row has the number, the
-// time, the kind and the digest of a change. The statement also reads the change with that number, and one more than a poll takes. It fails as pool.ask
-// does, or with errVersion.
+// changesSince returns the changes after the one with a number. `times` has the times of these and of that one, if it is not gone; the token of the
+// state, which tells one history from another, is the time of the last change that is read; `isCut` says that there are more. Behind the state a row
+// has the number, the time, the kind and the digest of a change. The statement also reads the change with that number, and one more than a poll
+// takes. It fails as pool.ask does, or with errVersion.
 func (p *pool) changesSince(number int64) (result pollResult, err error) {
 	hasState, count := false, 0
+	result.times = map[int64]int64{}
 	err = p.ask(askChangesSince, func(row []driver.Value) (err error) {
 		result.storeState, err = stateIn(row)
 		hasState = true
@@ -272,8 +288,8 @@ func (p *pool) changesSince(number int64) (result pollResult, err error) {
 		moment, _ := row[5].(int64)
 		// (the rows come in the order of their numbers: the last one has the time of the last change, unless isCut, when pollOnce asks `allEnded`)
 		result.token = moment
+		result.times[changeNumber] = moment
 		if changeNumber == number {
-			result.first = moment
 			return err
 		}
 		count++

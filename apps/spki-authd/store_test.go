@@ -70,8 +70,8 @@ func (t *table) rows(digests [][]byte) (rows entryRows, err error) {
 	rows.storeState = t.state
 	for number := 0; number < 100; number++ {
 		for _, digest := range digests {
-			if t.texts[number] != "" && t.keyDigests[number] == string(digest) {
-				rows.numbers, rows.texts = append(rows.numbers, number), append(rows.texts, []byte(t.texts[number]))
+			if t.texts[number] != "" && t.keyDigests[number] == string(digest) && err == nil {
+				err = rows.add(number, []byte(t.texts[number]))
 			}
 		}
 	}
@@ -79,16 +79,20 @@ func (t *table) rows(digests [][]byte) (rows entryRows, err error) {
 		t.meanwhile = nil
 		meanwhile()
 	}
-	return rows, t.fault
+	if t.fault != nil {
+		err = t.fault
+	}
+	return rows, err
 }
 
-// changesSince returns the changes after the one with a number, and the time of that one, or 0 if there is no such change.
+// changesSince returns the changes after the one with a number, and the times of these and of that one, if there is such a change.
 func (t *table) changesSince(number int64) (pollResult, error) {
-	result := pollResult{storeState: t.state}
+	result := pollResult{storeState: t.state, times: map[int64]int64{}}
 	if number > 0 && number <= t.state.changes {
-		result.first = t.changes[number-1].token
+		result.times[number] = t.changes[number-1].token
 	}
 	for place := number; place < t.state.changes; place++ {
+		result.times[place+1] = t.changes[place].token
 		if each := t.changes[place]; each.ended != nil {
 			result.ended = append(result.ended, *each.ended)
 		} else {
@@ -320,6 +324,38 @@ func TestStoreThatGoesBack(t *testing.T) {
 	s.expectAlice(t, "another history", 200)
 }
 
+// TestLostChange reads rows after a change that no poll has read yet: Mallory's entry is added. Then it polls a server of three kinds: one that has
+// lost this change, one that has another change of this number, and one that has it. Only by the last one the entry still grants, and Alice's rows,
+// which were read after the change too, are not read again.
+func TestLostChange(t *testing.T) {
+	for name, wanted := range map[string]int{"lost": 401, "another": 401, "there": 200} {
+		s := newStored(t)
+		polled := s.table.state
+		s.table.put(8, s.mallory.key, s.entryOf(s.mallory))
+		if status := s.statusFor(s.mallory, "/web/x", ""); status != 200 {
+			t.Errorf("%s: %d before the poll", name, status)
+		}
+		s.expectAlice(t, name+", before the poll", 200)
+		if wanted != 200 {
+			delete(s.table.texts, 8)
+			s.table.changes, s.table.state = s.table.changes[:polled.changes], polled
+		}
+		if name == "another" {
+			// (at another time than the lost change)
+			s.table.state.token++
+			s.table.put(9, s.bob.key, s.entryOf(s.bob))
+		}
+		s.beat()
+		if status := s.statusFor(s.mallory, "/web/x", ""); status != wanted {
+			t.Errorf("%s: %d after the poll", name, status)
+		}
+		reads := s.table.reads
+		if s.expectAlice(t, name+", after the poll", 200); (s.table.reads == reads) != (wanted == 200) {
+			t.Errorf("%s: %d reads", name, s.table.reads-reads)
+		}
+	}
+}
+
 // newStoredWithChains returns a storedSite at which clients can leave certificates, which its table keeps.
 func newStoredWithChains(t *testing.T) *storedSite {
 	t.Helper()
@@ -412,6 +448,21 @@ func TestHostileRows(t *testing.T) {
 	}
 }
 
+// TestMostRows adds as many entries as one principal may have, and then as many octets. With one more of either it has too many.
+func TestMostRows(t *testing.T) {
+	for _, each := range []struct{ count, octets int }{{mostRows, 1}, {1, mostList - len("(3:acl)")}} {
+		var rows entryRows
+		for number := 0; number < each.count; number++ {
+			if err := rows.add(number, make([]byte, each.octets)); err != nil {
+				t.Fatal(number, err)
+			}
+		}
+		if err := rows.add(each.count, []byte("x")); !errors.Is(err, errMany) || len(rows.texts) != each.count {
+			t.Errorf("%d of %d octets: %v", each.count, each.octets, err)
+		}
+	}
+}
+
 // A refusedMemory is an error as guard.Open returns it where an allocation fails.
 type refusedMemory struct{}
 
@@ -447,8 +498,10 @@ func TestStoreConfigs(t *testing.T) {
 	if err != nil {
 		t.Fatal(err)
 	}
-	if settings := config.Source.store; settings.Schema != "spki" || settings.mostAge() != 10*time.Second || !strings.Contains(settings.connectionString(), "sslmode=disable") {
-		t.Errorf("%+v", settings)
+	settings := config.Source.store
+	if words := settings.connectionString(); settings.Schema != "spki" || settings.mostAge() != 10*time.Second || !strings.Contains(words, "sslmode=disable ") ||
+		!strings.Contains(words, " search_path=pg_catalog ") {
+		t.Errorf("%+v %s", settings, words)
 	}
 	if config, err = parseConfig([]byte(withStore(`"host": "db", "root": "/a'b", "database": "d", "user": "u"`))); err != nil ||
 		!strings.Contains(config.Source.store.connectionString(), `sslmode=verify-full sslrootcert='/a\'b'`) {
