@@ -542,8 +542,8 @@ class OfStreams(TestWithKeys):
                     self.assertRegex(errors, f"^spki-cert: standard output: .*{message}")
 
     def test_a_closed_or_full_output_is_reported_in_a_shell(self):
-        for redirection, message in ((">&-", "is closed"), ("> /dev/full", "No space left")):
-            command = f"'{sys.executable}' '{COMMAND}' show to-bob {redirection}"
+        for flags, redirection, message in (("-B", ">&-", "is closed"), ("-B", "> /dev/full", "No space left"), ("-uB", "> out", "File too large")):
+            command = f"ulimit -f 1; '{sys.executable}' {flags} '{COMMAND}' --help {redirection}"
             done = subprocess.run(["sh", "-c", command], cwd=self.room, capture_output=True, text=True)
             self.assertEqual((done.returncode, message in done.stderr, "Traceback" in done.stderr), (3, True, False), done.stderr)
 
@@ -616,7 +616,7 @@ class OfSignals(TestWithKeys):
                 os.write(is_ready, b"x")
                 return os.read(hang, 1)
             sys.stdin = mock.Mock(buffer=mock.Mock(read=wait), fileno=lambda: hang)
-            sys.stdout = mock.Mock(encoding="ascii", buffer=mock.Mock(write=wait))
+            sys.stdout = mock.Mock(encoding="ascii", buffer=mock.Mock(write=lambda octets: len(octets) + len(wait())))
         child = Child(self.room, words, self.settings, before=before)
         # (so that `read` returns if the child has ended and was never ready)
         os.close(is_ready)

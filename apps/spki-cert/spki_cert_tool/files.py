@@ -72,7 +72,13 @@ def write_at_once(stream: TextIO | None, text: str | bytes) -> None:
     if isinstance(text, str):
         text = CONTROLS.sub(lambda control: f"\\x{ord(control[0]):02x}", text).encode(stream.encoding or "ascii", "backslashreplace")
     stream.flush()
-    stream.buffer.write(text)
+    rest = memoryview(text)
+    while rest:
+        # (without a buffer, by `python3 -u`, a part may be written, or None is returned, since it would have to wait)
+        written = stream.buffer.write(rest)
+        if written is None:
+            raise BlockingIOError(errno.EAGAIN, os.strerror(errno.EAGAIN))
+        rest = rest[written:]
     stream.buffer.flush()
 
 
