@@ -280,14 +280,16 @@ class OfPassphrases(CommandTest):
 
     @needs.needs("openssl")
     def test_the_passphrase_of_a_signing_key_is_asked_for(self):
-        """With a wrong passphrase nothing is signed. A passphrase is not shown on the terminal."""
+        """With a wrong passphrase, or a key that was cut, nothing is signed. A passphrase is not shown on the terminal."""
         self.make_pem_key("key.pem", "ed25519", "-aes-256-cbc", "-pass", "pass:sesame")
         self.write("b.sexp", sexp.laid_out(keys.FileSigner(keys.new_private("ed25519")).key))
-        words = ("sign", "--by", "key.pem", "--to", "b.sexp", "--tag", TAG, "--days", "30", "-o", "c.sexp")
-        status, output = self.run_on_terminal(words, b"open")
-        self.assertEqual((status, os.path.exists(self.at("c.sexp"))), (2, False), output)
+        self.write("cut", PEM.replace("PUBLIC", "EC PRIVATE").replace("\n", f"\nProc-Type: 4,ENCRYPTED\nDEK-Info: AES-128-CBC,{'0' * 16}\n\n", 1))
+        words = ("sign", "--to", "b.sexp", "--tag", TAG, "--days", "30", "-o", "c.sexp", "--by")
+        for name in ("cut", "key.pem"):
+            status, output = self.run_on_terminal((*words, name), b"open")
+            self.assertEqual((status, "Traceback" in output, os.path.exists(self.at("c.sexp"))), (2, False, False), output)
         self.assertIn("this is not the passphrase of the key", output)
-        status, output = self.run_on_terminal(words, b"sesame")
+        status, output = self.run_on_terminal((*words, "key.pem"), b"sesame")
         self.assertEqual((status, "sesame" in output), (0, False), output)
         self.verify("c.sexp")
 
@@ -407,8 +409,7 @@ class OfCertificates(CommandTest):
         self.assertEqual(len(value_in(octets_in(self.at("acl.tsexp"))).value), 3)
 
     def test_entries_are_removed(self):
-        """`entry --remove` removes all entries for a key, or for a name of it, and no others. The word or the entry may have a hash of the key. The
-        status is 1 if no entry is removed."""
+        """`entry --remove` removes all entries for a key, or for a name of it, and no others. The word or the entry may have a hash of the key."""
         for words in (("alice.pub",), ("bob.pub",), ("bob.pub", "--named", "team"), ("bob.pub",), ("alice.pub",)):
             self.cert("entry", "--to", *words, "--tag", TAG, "--yes", "--acl", "acl.sexp")
         output = self.cert("entry", "--remove", "--to", self.cert("key", "--hash", "bob.pub"), "--acl", "acl.sexp")
@@ -438,8 +439,7 @@ class OfCertificates(CommandTest):
         self.assertIn("acl.sexp: refused", self.cert(*to_bob, "--tag", TAG, *into_list, wanted=2))
 
     def test_no_file_is_half_written(self):
-        """Nothing is written where the output is a folder, or in a folder that is not there. A file stays as it is if `spki-cert` asks for --yes:
-        the certificate has no end. No temporary file is left."""
+        """Nothing is written where the output is a folder, or in a missing one. A file stays if the certificate needs --yes: it has no end."""
         self.write("c.sexp", "before")
         os.mkdir(self.at("folder"))
         self.assertIn("nothing was written", self.sign("--days", "1", "-o", "folder", wanted=2))

@@ -335,7 +335,10 @@ def main() -> int:
         tell(f"spki-cert: {why.filename or 'reading or writing'}: {why.strerror or why}")
     except KeyboardInterrupt:
         tell("spki-cert: ended by SIGINT")
-    except Exception as why:
+    except SystemExit:
+        raise
+    # (a panic of `cryptography` is no Exception)
+    except BaseException as why:
         tell(f"spki-cert: a fault of spki-cert itself, please report it: {type(why).__name__} {why}")
     return FAILED
 

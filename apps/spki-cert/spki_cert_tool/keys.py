@@ -11,7 +11,7 @@ import re
 from collections.abc import Callable
 from typing import TYPE_CHECKING, Any, Union, cast
 
-from .forms import Parser
+from .forms import Parser, Wrong
 from .places import USED, remark_on_foreign, value_in
 from .sexp import Value, canonical
 
@@ -286,9 +286,14 @@ def read_private(octets: bytes, asking: Asking) -> Private:
                 raise BadKey(NEEDS_BCRYPT) from None
             is_asked = True
             private = load(octets, asking())
-    except (ValueError, TypeError, ArithmeticError, UnsupportedAlgorithm) as fault:
+    except (BadKey, Wrong, KeyboardInterrupt, SystemExit):
+        raise
+    # (`cryptography` also raises InvalidTag, and PanicException, which is no Exception)
+    except BaseException as fault:
         if "bcrypt" in str(fault):
             raise BadKey(NEEDS_BCRYPT) from None
+        if isinstance(fault, UnsupportedAlgorithm):
+            raise BadKey(f"a private key of a kind, or with a cipher, that is not read here ({fault}); {USED}") from None
         if is_asked:
             raise BadKey("this is not the passphrase of the key, or the file is damaged") from None
         raise BadKey(f"no private key that can be read: was it copied to its end? And {USED}") from None
