@@ -220,7 +220,8 @@ def public_in(octets: bytes) -> object:
         return load_pem_public_key(octets) if PEM.search(octets) else load_ssh_public_key(octets)
     except UnsupportedAlgorithm:
         raise BadKey(f"a key of the kind {octets.split()[0].decode(errors='replace')}, and {USED}") from None
-    except ValueError:
+    # (also NotImplementedError for a compressed point, and IndexError for an empty one)
+    except Exception:
         raise BadKey(f"no whole public key: was it copied to its end? It must be one line of OpenSSH or a block of PEM, and {USED}") from None
 
 
