@@ -159,7 +159,7 @@ def list_at(path: str) -> bytes:
     service."""
     if path != "-" and os.path.exists(path) and not os.path.isfile(path):
         raise Refused(f"{path}: this is no regular file, and only such a list is edited; nothing was written")
-    return text_at(path, "refused acl")[0]
+    return text_at(path, "acl")[0]
 
 
 def confirm(is_given: bool, option: str, warnings: Iterable[str]) -> bool:
