@@ -395,8 +395,8 @@ class Adopts(TestOfEnding):
                 self.assertEqual(self.octets(ENDED), sealed(*lines))
 
     def test_adopt_refuses_other_lines(self) -> None:
-        """A line that is neither a digest nor a comment is refused, also with `--yes`."""
-        for octets in (A.encode() + b"\n" + B[:30].encode(), b"see sha256 of the release\n", sealed(A) + sealed(B), b"\x00", A.encode() + b" x\n"):
+        """A line that is neither a digest nor a comment is refused, also with `--yes`. One of a million blanks would take hours in quadratic time."""
+        for octets in (A.encode() + b"\n" + B[:30].encode(), b"see sha256\n", sealed(A) + sealed(B), b" " * 10**6 + b"\0", A.encode() + b" x\n"):
             with self.subTest(octets=octets):
                 self.write(ENDED, octets)
                 output = self.end("--adopt", "--yes", wanted=2)

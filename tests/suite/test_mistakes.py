@@ -352,6 +352,9 @@ class OfKeyFiles(TestWithKeys):
             self.assertIn("folder: this folder cannot be read: Permission denied", self.cert("check", "folder", wanted=2))
         for name, kind in (("alice", "a private key, Ed25519"), ("bob.pub", "a public key, Ed25519"), ("to-bob", "a sequence, certificates: 1")):
             self.assertIn(f"{name}: {kind}", self.cert("check", name))
+        self.write("case", '(case (acl) (accepted) (sequence) (key (public-key (test a))) (request x) (at "2026-01-01_00:00:00"))')
+        for words in (("key", "case"), ("entry", "--to", "bob.pub", "--remove", "--acl", "case")):
+            self.changes_nothing(*words, message="this is a whole case, and")
 
 
 class OfChains(TestWithKeys):
@@ -542,8 +545,8 @@ class OfStreams(TestWithKeys):
                     self.assertRegex(errors, f"^spki-cert: standard output: .*{message}")
 
     def test_a_closed_or_full_output_is_reported_in_a_shell(self):
-        for redirection, message in ((">&-", "is closed"), ("> /dev/full", "No space left")):
-            command = f"'{sys.executable}' '{COMMAND}' show to-bob {redirection}"
+        for flags, redirection, message in (("-B", ">&-", "is closed"), ("-B", "> /dev/full", "No space left"), ("-uB", "> out", "File too large")):
+            command = f"ulimit -f 1; '{sys.executable}' {flags} '{COMMAND}' --help {redirection}"
             done = subprocess.run(["sh", "-c", command], cwd=self.room, capture_output=True, text=True)
             self.assertEqual((done.returncode, message in done.stderr, "Traceback" in done.stderr), (3, True, False), done.stderr)
 
@@ -561,9 +564,8 @@ class OfStreams(TestWithKeys):
         self.assertIn("\\x1b[2Jcarol ä", self.cert("show", "--labels", ".", "d.sexp"))
 
     def test_the_end_of_the_input_at_a_passphrase(self):
-        # (in place of a terminal: its file and its settings)
         with mock.patch("getpass.getpass", side_effect=EOFError), mock.patch.object(files, "open", mock.mock_open(), create=True), \
-                mock.patch("termios.tcgetattr"):
+                mock.patch("termios.tcgetattr"):  # (in place of a terminal: its file and its settings)
             self.assertIn("the input ended where", self.cert("key", "new", "new", wanted=2))
 
 
@@ -616,14 +618,12 @@ class OfSignals(TestWithKeys):
                 os.write(is_ready, b"x")
                 return os.read(hang, 1)
             sys.stdin = mock.Mock(buffer=mock.Mock(read=wait), fileno=lambda: hang)
-            sys.stdout = mock.Mock(encoding="ascii", buffer=mock.Mock(write=wait))
+            sys.stdout = mock.Mock(encoding="ascii", buffer=mock.Mock(write=lambda octets: len(octets) + len(wait())))
         child = Child(self.room, words, self.settings, before=before)
-        # (so that `read` returns if the child has ended and was never ready)
-        os.close(is_ready)
+        os.close(is_ready)  # (so that `read` returns if the child has ended and was never ready)
         os.read(ready, 1)
         os.kill(child.process, number)
-        # (a signal may have stopped the child)
-        os.kill(child.process, signal.SIGCONT)
+        os.kill(child.process, signal.SIGCONT)  # (a signal may have stopped the child)
         os.close(release)
         outcome = child.wait()
         for handle in (ready, hang):

@@ -159,7 +159,7 @@ def list_at(path: str) -> bytes:
     service."""
     if path != "-" and os.path.exists(path) and not os.path.isfile(path):
         raise Refused(f"{path}: this is no regular file, and only such a list is edited; nothing was written")
-    return text_at(path, "refused acl")[0]
+    return text_at(path, "acl")[0]
 
 
 def confirm(is_given: bool, option: str, warnings: Iterable[str]) -> bool:
@@ -335,7 +335,10 @@ def main() -> int:
         tell(f"spki-cert: {why.filename or 'reading or writing'}: {why.strerror or why}")
     except KeyboardInterrupt:
         tell("spki-cert: ended by SIGINT")
-    except Exception as why:
+    except SystemExit:
+        raise
+    # (a panic of `cryptography` is no Exception)
+    except BaseException as why:
         tell(f"spki-cert: a fault of spki-cert itself, please report it: {type(why).__name__} {why}")
     return FAILED
 

@@ -24,8 +24,8 @@ DIGITS = re.compile(r"[0-9A-Fa-f]{64}")
 ENDED = re.compile(rb"([0-9a-f]{64})(?: # ([^\n]*))?")
 # (a number of thousands of digits would be no number to `int`)
 LAST = re.compile(rb"end (0|[1-9][0-9]{0,17}) ([0-9a-f]{64})")
-# A line as people write it: digits in capitals too, spaces, a comment right behind it.
-BY_HAND = re.compile(rb"[ \t]*([0-9A-Fa-f]{64})?[ \t]*(?:#([^\n]*))?")
+# A line as people write it: digits in capitals too, spaces, a comment right behind it. (Blanks match in one way, so that many take linear time.)
+BY_HAND = re.compile(rb"[ \t]*(?:([0-9A-Fa-f]{64})[ \t]*)?(?:#([^\n]*))?")
 # A comment that begins with a date, as `add` writes it, and perhaps a reason behind it.
 DATED = re.compile(r"(\d{4}-\d\d-\d\d)(?: (.*))?")
 

@@ -72,7 +72,13 @@ def write_at_once(stream: TextIO | None, text: str | bytes) -> None:
     if isinstance(text, str):
         text = CONTROLS.sub(lambda control: f"\\x{ord(control[0]):02x}", text).encode(stream.encoding or "ascii", "backslashreplace")
     stream.flush()
-    stream.buffer.write(text)
+    rest = memoryview(text)
+    while rest:
+        # (without a buffer, by `python3 -u`, a part may be written, or None is returned, since it would have to wait)
+        written = stream.buffer.write(rest)
+        if written is None:
+            raise BlockingIOError(errno.EAGAIN, os.strerror(errno.EAGAIN))
+        rest = rest[written:]
     stream.buffer.flush()
 
 
@@ -145,24 +151,27 @@ def refusal_to_read(path: str, why: OSError) -> Refused:
     return Refused(f"{path}: {why.strerror}{suggestion(os.fsencode(name), neighbours)}")
 
 
-def text_at(path: str, read_as: str = "") -> tuple[bytes, Node]:
-    """The octets of a file, and its value. `read_as` is empty, or the beginning of a refusal such as `refused acl`, whose second word says as what it
-    is read. Raises Refused if the file cannot be read, or with the place if a service would refuse it."""
+def text_at(path: str, kind: str = "") -> tuple[bytes, Node]:
+    """The octets of a file, and its value, which must be of a kind: acl, sequence, case, or any for an empty one. Raises Refused for one of another
+    kind, if the file cannot be read, or with the place if a service would refuse it."""
     octets = octets_of(path)
-    diagnosis, node = read_text(octets, read_as)
+    diagnosis, node = read_text(octets, f"refused {kind}" if kind else "")
     if diagnosis[0] is not None:
         raise Refused(*lines_of_fault(path, diagnosis))
+    # (`read_text` accepts a whole case too: a refusal that begins so may be that of a part of a case)
+    if kind and node.head != kind.encode():
+        raise refusal_of_case(path, kind)
     return octets, node
 
 
+def refusal_of_case(path: str, wanted: str) -> Refused:
+    """The exception for a file that is a whole case, where a value with the head `wanted` is read."""
+    return Refused(f"{path}: this is a whole case, and `({wanted} ..)` is wanted")
+
+
 def value_of(path: str, kind: str) -> Value:
-    """The value of a file, which must be of a kind: acl, sequence, case. Raises Refused for one of another kind, if it cannot be read, or if a
-    service would refuse it."""
-    _, node = text_at(path, f"refused {kind}")
-    # (`text_at` accepts a whole case too: a refusal that begins so may be that of a part of a case)
-    if node.head != kind.encode():
-        raise Refused(f"{path}: this is a whole case, and `({kind} ..)` is wanted")
-    return node.value
+    """The value of a file, which must be of a kind: acl, sequence, case. Raises Refused as `text_at` does."""
+    return text_at(path, kind)[1].value
 
 
 def value_headed(path: str, heads: tuple[bytes, ...], wanted: str) -> Value:
@@ -241,7 +250,9 @@ def octets_of_key(path: str) -> Iterator[bytes]:
     except BadKey as why:
         raise Refused(f"{path}: {why}") from None
     except Wrong:
-        raise Refused(*lines_of_fault(path, read_text(octets, "refused key")[0])) from None
+        # (no lines: `read_text` accepts a whole case too)
+        lines = lines_of_fault(path, read_text(octets, "refused key")[0])
+        raise Refused(*lines) if lines else refusal_of_case(path, "public-key") from None
 
 
 def remark_on_mode(path: str) -> Iterator[str]:

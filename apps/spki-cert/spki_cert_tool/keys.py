@@ -11,7 +11,7 @@ import re
 from collections.abc import Callable
 from typing import TYPE_CHECKING, Any, Union, cast
 
-from .forms import Parser
+from .forms import Parser, Wrong
 from .places import USED, remark_on_foreign, value_in
 from .sexp import Value, canonical
 
@@ -28,9 +28,11 @@ KINDS = (ED25519, RSA, P256, P384)
 NEW_BITS = 3072
 # The octets of each of the two numbers of a signature by Ed25519 or P-256.
 HALF = 32
-# So many octets are read of a number of a private RSA key. A key that is used has at most 513. One of up to 4098 is refused with its number of bits,
-# and computing with more would take long.
+# So many octets are read of a number of a private RSA key in an S-expression. One of up to 4098 is refused with its number of bits.
 MOST_OCTETS = 4098
+# The most octets of a number of a private key in PEM, 4096 bits behind a zero octet, and of what is between its lines BEGIN and END, where such a key
+# has 3400. `cryptography` tests primes of any length, which may take minutes, and no signal ends the program meanwhile.
+MOST_IN_PEM, MOST_BETWEEN = 513, 5120
 # How an S-expression of a private key begins.
 PRIVATE = (b"(private-key", b"(11:private-key")
 PEM = re.compile(rb"-----BEGIN ([A-Z0-9 ]+)-----")
@@ -42,6 +44,9 @@ FIELD = rb'(?!ssh-|ecdsa-|sk-)(?:\\"|\\(?!")|[^ \t\r\n"\\]|"(?:\\"|\\(?!")|[^"\r
 # (no more blanks than `remark_on_foreign` takes, which refuses certificates and FIDO keys)
 KEY = rb"(?:ssh-|ecdsa-|sk-)[\w@.-]+[ \t]{1,64}AAAA[A-Za-z0-9+/=]+"
 OPENSSH = re.compile(rb"^(?![ \t]*#)[ \t]*(?:%b){0,2}(%b)[ \t]*([^\r\n]*)" % (FIELD, KEY), re.MULTILINE)
+# A block of PEM with a private key, of which group 1 is what is between its lines, and how one begins that is encrypted.
+PRIVATE_PEM = re.compile(rb"-----BEGIN [A-Z0-9 ]*PRIVATE KEY-----(.*?)(?:-----END|\Z)", re.DOTALL)
+ENCRYPTED_PEM = re.compile(rb"-----BEGIN (?:ENCRYPTED PRIVATE KEY-----|[A-Z0-9 ]*PRIVATE KEY-----\s*Proc-Type: 4,ENCRYPTED)")
 NEEDS_BCRYPT = "encrypted OpenSSH keys need python3-bcrypt (pip: bcrypt); or let ssh-agent sign by it"
 ENCRYPTED = "this is an encrypted private key"
 # A function that asks for the passphrase of a file.
@@ -220,7 +225,8 @@ def public_in(octets: bytes) -> object:
         return load_pem_public_key(octets) if PEM.search(octets) else load_ssh_public_key(octets)
     except UnsupportedAlgorithm:
         raise BadKey(f"a key of the kind {octets.split()[0].decode(errors='replace')}, and {USED}") from None
-    except ValueError:
+    # (also NotImplementedError for a compressed point, and IndexError for an empty one)
+    except Exception:
         raise BadKey(f"no whole public key: was it copied to its end? It must be one line of OpenSSH or a block of PEM, and {USED}") from None
 
 
@@ -276,6 +282,11 @@ def read_private(octets: bytes, asking: Asking) -> Private:
     try:
         if octets.lstrip().startswith(b"("):
             return private_of_text(octets)
+        # (before `cryptography` tests the primes. Of OpenSSH's form it tests only those whose product is the number in the public part)
+        if openssh_public:
+            key_of(public_in(openssh_public))
+        else:
+            refuse_long(octets)
         try:
             private = load(octets, None)
         except (TypeError, ValueError) as fault:
@@ -286,15 +297,43 @@ def read_private(octets: bytes, asking: Asking) -> Private:
                 raise BadKey(NEEDS_BCRYPT) from None
             is_asked = True
             private = load(octets, asking())
-    except (ValueError, TypeError, ArithmeticError, UnsupportedAlgorithm) as fault:
+    except (BadKey, Wrong, KeyboardInterrupt, SystemExit):
+        raise
+    # (`cryptography` also raises InvalidTag, and PanicException, which is no Exception)
+    except BaseException as fault:
         if "bcrypt" in str(fault):
             raise BadKey(NEEDS_BCRYPT) from None
+        if isinstance(fault, UnsupportedAlgorithm):
+            raise BadKey(f"a private key of a kind, or with a cipher, that is not read here ({fault}); {USED}") from None
         if is_asked:
             raise BadKey("this is not the passphrase of the key, or the file is damaged") from None
         raise BadKey(f"no private key that can be read: was it copied to its end? And {USED}") from None
     # (raises BadKey for a kind or length that is not used)
     key_of(private.public_key())
     return cast("Private", private)
+
+
+def refuse_long(octets: bytes) -> None:
+    """Raises BadKey for a private key in PEM that is longer than those that are used, and ValueError or IndexError, which `read_private` catches, for
+    one that is not whole. Of an encrypted one the numbers are not seen."""
+    found, der, at = PRIVATE_PEM.search(octets), b"", 0
+    is_long = found is not None and len(found[1]) > MOST_BETWEEN
+    if found is not None and not is_long and not ENCRYPTED_PEM.search(octets):
+        der = base64.b64decode(b"".join(found[1].split()), validate=True)
+    # (DER: each value behind its kind, and its length, which is one octet, or more behind their count and 128)
+    while at < len(der):
+        kind, length, at = der[at], der[at + 1], at + 2
+        if length >= 128:
+            at, length = at + length - 128, int.from_bytes(der[at:at + length - 128], "big")
+        # (an INTEGER)
+        is_long = is_long or kind == 2 and length > MOST_IN_PEM
+        # (the members of a SEQUENCE are values too, and those of RSA are in an OCTET STRING, which is longer than those of other keys)
+        if kind != 0x30 and not (kind == 4 and length > 255):
+            at += length
+    if is_long:
+        raise BadKey(f"a private key that is longer than one of RSA with 4096 bits, and {USED}")
+    if at != len(der):
+        raise ValueError
 
 
 def private_of_text(octets: bytes) -> Private:
@@ -310,6 +349,8 @@ def private_of_text(octets: bytes) -> Private:
                                [b"p", bytes() as first], [b"q", bytes() as second], *_]]:
             n, e, d, p, q = (int.from_bytes(number[:MOST_OCTETS], "big") for number in (modulus, exponent, secret, first, second))
             public = rsa.RSAPublicNumbers(e, n)
+            # (raises BadKey for a long key before `cryptography` tests primes. It tests only those whose product is n)
+            key_of(public.public_key())
             return rsa.RSAPrivateNumbers(p, q, d, d % (p - 1), d % (q - 1), rsa.rsa_crt_iqmp(p, q), public).private_key()
     raise BadKey("a private key in a form that is not known")
 
