@@ -52,8 +52,8 @@ fn requested_command(alloc: Global, words: &io::Result<Vec<String>>) -> Result<C
     }
 }
 
-/// The fault for an error of reading the words from the system: `Refused` with a message if they are not UTF-8. Any other error is
-/// the fault `Memory`.
+/// The fault for an error of reading the words from the system. `InvalidData` says that they are not UTF-8: the fault is `Refused` with a message, or
+/// `Memory` if memory ran out for it. Any other error is `Memory`, since the words are in memory, and reading them fails for want of it alone.
 fn unread_words_fault(alloc: Global, error: &io::Error) -> WordsFault
     ensures { AreUnreadWords (error_kind error.now) result }
 {

@@ -67,14 +67,15 @@ pub(crate) trait CalledBy {
     fn call_by(&self, alloc: Global, name: &str, verifier: &RowVerifier) -> Reply;
 }
 
-/// Does a call on a value by the verifier that `rows` names: `all`, `broken`, or an accepted list.
+/// Does the call with this name on a value by the verifier that a text of the row names: `all`, `broken`, or an accepted list. Err is also the fault
+/// of that list. The verifier is freed by a call of `drop`, so that the proof does not go through its parts at each exit.
 pub(crate) fn with_verifier<T: CalledBy>(
     alloc: Global,
     name: &str,
     value: &T,
-    rows: &[u8],
+    text: &[u8],
 ) -> Reply {
-    let verifier = RowVerifier::read(alloc, rows)?;
+    let verifier = RowVerifier::read(alloc, text)?;
     let reply = value.call_by(alloc, name, &verifier);
     drop(verifier);
     reply

@@ -24,7 +24,7 @@ use test_callers::texts::same_value;
 use test_callers::values::first_member;
 use test_calls::answers::{Reply, answer, octets, shown, word};
 use test_calls::failure::Failure;
-use test_calls::texts::{at, behind, keys, number, read};
+use test_calls::texts::{at, keys, number, read, texts_from};
 
 /// Does the call of `test_callers` that `name` names, such as `first_member`, with the texts of a row of a test table as its arguments, and
 /// returns its answer. None if there is no such call: this is the last module that is asked for a name.
@@ -36,7 +36,7 @@ pub(crate) fn call(alloc: Global, name: &str, texts: &[Vec<u8>]) -> Option<Reply
         "text_from" => Some(whole(alloc, one, number(other))),
         "narrowed" => Some(narrow(alloc, one, other)),
         "pinned_key" => Some(pinned(alloc, one, other)),
-        "grants" => Some(granted(alloc, one, behind(texts, 1))),
+        "grants" => Some(granted(alloc, one, texts_from(texts, 1))),
         "decide_unrevoked" => Some(decide(alloc, texts)),
         "answer_both" => Some(both(alloc, texts)),
         "shared_guard" => Some(entries_of(alloc, one)),
@@ -134,7 +134,7 @@ fn asks(alloc: Global, first: &Five, texts: &[Vec<u8>]) -> Reply
 /// revoked keys.
 fn decide(alloc: Global, texts: &[Vec<u8>]) -> Reply {
     let case = made(alloc, texts)?;
-    let reply = with_revoked(alloc, &case, at(texts, 5), behind(texts, 6));
+    let reply = with_revoked(alloc, &case, at(texts, 5), texts_from(texts, 6));
     drop(case);
     reply
 }
@@ -152,7 +152,7 @@ fn of_parts<'a>(
     texts: &'a [Vec<u8>],
 ) -> Result<Case<'a>, Failure> {
     let entries = read(alloc, at(texts, 0))?;
-    let question = question(alloc, behind(texts, 2))?;
+    let question = question(alloc, texts_from(texts, 2))?;
     Ok(case_of(alloc, entries, shown, question)?)
 }
 
@@ -187,7 +187,7 @@ fn posed<'a>(sequence: &'a [u8], key: &'a [u8]) -> Posed<'a> {
 /// The decisions of `answer_both` for two keys, each on the question of `posed`. The texts are the access list, the sequence, the two keys,
 /// the accepted list, and the revoked keys.
 fn both(alloc: Global, texts: &[Vec<u8>]) -> Reply {
-    let revoked = keys(alloc, behind(texts, 5))?;
+    let revoked = keys(alloc, texts_from(texts, 5))?;
     let table = AcceptedTable::read(alloc, at(texts, 4))?;
     let first = posed(at(texts, 1), at(texts, 2));
     let second = posed(at(texts, 1), at(texts, 3));

@@ -10,7 +10,7 @@ use test_calls::answers::{Reply, answer, joined, shown, word};
 use test_calls::failure::Failure;
 use test_calls::guards::{guard, question};
 use test_calls::owned_questions::{mark_all, shared};
-use test_calls::texts::{at, behind, word_of};
+use test_calls::texts::{at, texts_from, word_of};
 
 /// Does the library call that `name` names, such as `intersect`, with the texts of a row of a test table as its arguments, and returns its answer.
 /// A name that this module does not have is passed on to the next module. None if no module has it.
@@ -74,7 +74,7 @@ fn query_of(text: &[u8]) -> Query {
 /// `query_of`. After it each question has five texts, the last of which is its marks.
 fn answer_all(alloc: Global, texts: &[Vec<u8>]) -> Reply {
     let shared = shared(alloc, texts)?;
-    let reply = answers_to(alloc, &shared, query_of(at(texts, 4)), behind(texts, 5));
+    let reply = answers_to(alloc, &shared, query_of(at(texts, 4)), texts_from(texts, 5));
     drop(shared);
     reply
 }

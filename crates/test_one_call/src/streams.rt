@@ -15,7 +15,7 @@ use std::io;
 use std::io::{Error, ErrorKind, Read, Write};
 use test_calls::answers::{Reply, joined};
 use test_calls::failure::Failure;
-use test_calls::texts::{at, behind, number, word_of};
+use test_calls::texts::{at, number, texts_from, word_of};
 
 /// Does the library call that `name` names, such as `run`, with the texts of a row of a test table as its arguments, and returns its answer.
 /// A name that this module does not have is passed on to the next module. None if no module has it.
@@ -170,8 +170,8 @@ fn command(word: &[u8]) -> Command {
 /// the writer, as for `TestStream::new`. The answer is the exit status; the reader's calls, its faults, whether it ended, how many octets are left;
 /// the writer's calls, its faults, whether it was flushed; and what was written.
 fn run(alloc: Global, texts: &[Vec<u8>]) -> Reply {
-    let mut reader = Metered::new(TestStream::new(alloc, at(texts, 1), behind(texts, 2)));
-    let mut writer = Metered::new(TestStream::new(alloc, b"", behind(texts, 5)));
+    let mut reader = Metered::new(TestStream::new(alloc, at(texts, 1), texts_from(texts, 2)));
+    let mut writer = Metered::new(TestStream::new(alloc, b"", texts_from(texts, 5)));
     let status = spki_guard::run(alloc, command(at(texts, 0)), &mut reader, &mut writer).code();
     let (reads, read_faults, ended) = (reader.asks(), reader.faults(), reader.ended());
     let (writes, write_faults, flushed) = (writer.asks(), writer.faults(), writer.flushed());
@@ -194,7 +194,7 @@ fn written(alloc: Global, counts: &[u8], taken: &[u8]) -> Reply {
 /// Reads once through a meter, into a buffer of three octets. The first text is what the stream gives; the others are for `TestStream::new`. The
 /// answer is that of `metered_reply`.
 fn read_once(alloc: Global, texts: &[Vec<u8>]) -> Reply {
-    let mut meter = Metered::new(TestStream::new(alloc, at(texts, 0), behind(texts, 1)));
+    let mut meter = Metered::new(TestStream::new(alloc, at(texts, 0), texts_from(texts, 1)));
     let mut buffer = [0; 3];
     let count = count_of(meter.read(&mut buffer))?;
     let (asks, faults) = (meter.asks(), meter.faults());
@@ -204,7 +204,7 @@ fn read_once(alloc: Global, texts: &[Vec<u8>]) -> Reply {
 /// Writes octets, the first text, once through a meter, and flushes. The fault of a flush shows in the meter's count, so its result is dropped. The
 /// other texts are for `TestStream::new`. The answer is that of `metered_reply`, for the octets that were written.
 fn write_once(alloc: Global, texts: &[Vec<u8>]) -> Reply {
-    let mut meter = Metered::new(TestStream::new(alloc, b"", behind(texts, 1)));
+    let mut meter = Metered::new(TestStream::new(alloc, b"", texts_from(texts, 1)));
     let count = count_of(meter.write(at(texts, 0)))?;
     drop(meter.flush());
     let (asks, faults) = (meter.asks(), meter.faults());
