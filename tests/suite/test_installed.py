@@ -112,7 +112,7 @@ class Installed(built.OfLibrary):
         self.assertEqual(versions, dict.fromkeys(versions, text_of("VERSION").strip()))
 
     @needs.needs("man")
-    def test_the_manual_is_shown_without_warnings(self) -> None:
+    def test_the_manuals_are_shown_without_warnings(self) -> None:
         settings = {**os.environ, "LC_ALL": "C.UTF-8", "MANPAGER": "cat", "MANWIDTH": "80"}
         for page in (self.page, os.path.join(os.path.dirname(self.page), "spki-cert.1")):
             done = subprocess.run(["man", "--warnings", "-l", page], stdout=subprocess.DEVNULL, stderr=subprocess.PIPE, text=True, env=settings,
