@@ -774,7 +774,7 @@ class Starting(built.OfProgram):
             for name in ("apps/playground", "apps/spki-cert", "bindings/python", "examples/guide"):
                 shutil.copytree(os.path.join(TOP, name), os.path.join(room, name))
             words = [sys.executable, "apps/playground", "--no-browser"]
-            bare = {"HOME": room, "PATH": os.path.join(room, "none")}
+            bare = {"HOME": room, "PATH": os.path.join(room, "none")}  # (where no program is found)
             done = subprocess.run(words, cwd=room, env=bare, stdout=subprocess.PIPE, stderr=subprocess.PIPE, text=True, timeout=SECONDS)
             self.assertEqual((done.returncode, done.stdout), (2, ""))
             self.assertIn("`tests/run --quick words`", done.stderr)

@@ -66,7 +66,7 @@ class Handler(http.server.BaseHTTPRequestHandler):
 
 
 class Service(http.server.ThreadingHTTPServer):
-    """A service on a port of its own. `requests` has the method, path and body of each request that it got."""
+    """A service at `name`, an address with a port of its own. `requests` has the method, path and body of each request that it got."""
 
     def __init__(self) -> None:
         import spki_http
