@@ -449,7 +449,7 @@ class Requests(OfPage):
         for body in ("", "[]", "{", "[" * 100_000, "5"):
             self.assertEqual(self.post(body=body), 400, body[:9])
 
-    def test_headers_of_every_reply(self) -> None:
+    def test_headers_of_replies(self) -> None:
         for path in (self.page.address.path, self.page.address.path + "page.js", "/", self.page.address.path + "none"):
             headers = self.page.send("GET", path)[1]
             self.assertIn("default-src 'none'", headers["Content-Security-Policy"])

@@ -383,10 +383,10 @@ class WithDriver(OfDaemon):
         self.assertEqual(output, (0, ""))
 
     def test_answers_while_the_store_changes(self) -> None:
-        """Generated questions are asked while another client changes the store: each answer is that of the whole list's guard. (More tests run.)"""
+        """Generated questions are asked while another client changes the store. Each answer is that of the guard of the whole list."""
         output = self.go("test", *WITH_DRIVER, "-count=1", "-run", "ToStore|Transact|Pool|Quoted", "-v", ".", SPKI_STORE_HOST=self.server.folder,
                          SPKI_STORE_SEED=str(secrets.randbelow(1 << 32)), SPKI_STORE_SCHEMA=self.schema, SPKI_STORE_QUESTIONS=str(QUESTIONS))
-        self.assertIn("--- PASS: TestQuestionsToStore", output)
+        self.assertIn("--- PASS: TestQuestionsToStore", output)  # (it asks them; the others try parts of the client)
 
 
 # `stale_seconds` of the daemons: the state of a store that is older decides nothing.
