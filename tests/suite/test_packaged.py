@@ -275,7 +275,7 @@ class Packages(built.OfLibrary):
 
 @needs.needs("dpkg-deb", "go", *needs.LIBRARY)
 class Scripts(unittest.TestCase):
-    """What runs where a package is installed, what packages.sh refuses, and the manual of the daemon."""
+    """What runs where a package is installed, what packages.sh refuses, the modules that it lists, and the manual of the daemon."""
 
     def test_maintainer_is_required(self) -> None:
         """Without the name and the address of a maintainer, or with an option that is misspelled, no packages are made."""

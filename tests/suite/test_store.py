@@ -569,7 +569,7 @@ class Asker(threading.Thread):
 
 
 class Heartbeat(OfStore):
-    """The heartbeat, where another server takes the place of the primary, and where a host does not answer."""
+    """The heartbeat, where another server takes the place of the primary, where a host does not answer, and where no server takes a beat."""
 
     def last_beat(self, server: databases.Server) -> int:
         """The number of the last heartbeat that a server has."""
