@@ -30,8 +30,8 @@ def first_group(pattern: str, text: str) -> str:
 
 
 def install(program: str, library: str, **settings: str) -> tuple[tempfile.TemporaryDirectory, str]:
-    """Runs install.sh with the paths of a built program and static library. It installs into a new folder, with spaces in its name, that has the
-    files of OTHERS already. `settings` are more variables of its environment. Returns folder and output. Raises AssertionError if it fails."""
+    """Runs install.sh with the paths of a built program and static library, into a new folder with spaces in its name and the files of OTHERS in it.
+    `settings` are added to its environment. Returns the folder, which goes with this object, and output. Raises AssertionError if it fails."""
     prefix = tempfile.TemporaryDirectory(suffix=" with a space")
     for place in OTHERS:
         os.makedirs(os.path.dirname(os.path.join(prefix.name, place)))

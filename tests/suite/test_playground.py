@@ -109,7 +109,7 @@ def hostile_question():
 
 
 def long_question():
-    """A question of about 50,000 octets, most of it in the access list and the certificates, for bench/playground.py."""
+    """A question of about 50,000 octets, most of it in the access list and the certificate, for bench/playground.py."""
     entries = "".join(f"\n (entry (public-key (test other{place})) (tag (packages read (* prefix /other{place}/))))" for place in range(360))
     paths = " ".join(f"/builds/web/{place:05}.html" for place in range(950))
     sequence = STORY["sequence"].replace("(* prefix /builds/web/)", f"(* set (* prefix /builds/web/) {paths})")
