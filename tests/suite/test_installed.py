@@ -30,8 +30,8 @@ def first_group(pattern: str, text: str) -> str:
 
 
 def install(program: str, library: str, **settings: str) -> tuple[tempfile.TemporaryDirectory, str]:
-    """Runs install.sh with the paths of a built program and static library. It installs into a new folder, with spaces in its name, that has the
-    files of OTHERS already. `settings` are more variables of its environment. Returns folder and output. Raises AssertionError if it fails."""
+    """Runs install.sh with the paths of a built program and static library, into a new folder with spaces in its name and the files of OTHERS in it.
+    `settings` are added to its environment. Returns the folder, which goes with this object, and output. Raises AssertionError if it fails."""
     prefix = tempfile.TemporaryDirectory(suffix=" with a space")
     for place in OTHERS:
         os.makedirs(os.path.dirname(os.path.join(prefix.name, place)))
@@ -112,7 +112,7 @@ class Installed(built.OfLibrary):
         self.assertEqual(versions, dict.fromkeys(versions, text_of("VERSION").strip()))
 
     @needs.needs("man")
-    def test_the_manual_is_shown_without_warnings(self) -> None:
+    def test_the_manuals_are_shown_without_warnings(self) -> None:
         settings = {**os.environ, "LC_ALL": "C.UTF-8", "MANPAGER": "cat", "MANWIDTH": "80"}
         for page in (self.page, os.path.join(os.path.dirname(self.page), "spki-cert.1")):
             done = subprocess.run(["man", "--warnings", "-l", page], stdout=subprocess.DEVNULL, stderr=subprocess.PIPE, text=True, env=settings,

@@ -116,7 +116,7 @@ LOCATE = loaded(PATH)
 
 
 def locate(text, refusal):
-    """Runs `locate` on a text, and behind it `refused` and the words of `refusal`, if it has any. Returns the exit status and standard output."""
+    """Runs `locate` on a file with a text, with `refused` and `refusal` behind its name unless that is empty. Returns status and standard output."""
     with tempfile.NamedTemporaryFile() as file, contextlib.redirect_stdout(io.StringIO()) as out:
         file.write(text.encode())
         file.flush()

@@ -404,7 +404,7 @@ class OfTheRightOfAChain(OfChains):
         self.settings["SPKI_LIBRARY"] = built.shared()
 
     def sign_behind(self, *words, by="bob", to="carol.pub", tag="(packages read)", chain="to-bob", wanted=0):
-        """Runs `spki-cert sign --chain`: bob signs c.sexp behind the chain in a file. The status must be `wanted`. Returns what it writes."""
+        """Runs `spki-cert sign --chain`: `by` signs c.sexp, behind the chain in a file. The status must be `wanted`. Returns what it writes."""
         return self.sign("--chain", chain, "--force", "-o", "c.sexp", *words, by=by, to=to, tag=tag, wanted=wanted, days=("--days", "5"))
 
     def test_what_the_issuer_has_is_signed(self):
@@ -546,7 +546,7 @@ class OfStreams(TestWithKeys):
 
     def test_a_closed_or_full_output_is_reported_in_a_shell(self):
         for flags, redirection, message in (("-B", ">&-", "is closed"), ("-B", "> /dev/full", "No space left"), ("-uB", "> out", "File too large")):
-            command = f"ulimit -f 1; '{sys.executable}' {flags} '{COMMAND}' --help {redirection}"
+            command = f"ulimit -f 1; '{sys.executable}' {flags} '{COMMAND}' --help {redirection}"  # (a file has at most one block; -u: no buffer)
             done = subprocess.run(["sh", "-c", command], cwd=self.room, capture_output=True, text=True)
             self.assertEqual((done.returncode, message in done.stderr, "Traceback" in done.stderr), (3, True, False), done.stderr)
 
@@ -675,7 +675,7 @@ class OfRandomWords(TestWithKeys):
         os.symlink("acl.sexp", self.at("link"))
         # (the octets from which `random_octets` makes others)
         self.sources = [octets_in(self.at(name)) for name in ("alice", "alice.pub", "acl.sexp", "to-bob", "keys")]
-        # (a quick run has no library: then the commands that ask it say so)
+        # (where no library is tested, or it is not built, the commands that ask it say that it is not here)
         if not built.IS_ALONE and os.path.exists(os.environ.get("SPKI_TEST_LIBRARY", built.LIBRARY)):
             self.settings["SPKI_LIBRARY"] = built.shared()
 

@@ -30,7 +30,7 @@ ASKED = (*COMMANDS, "check_accepted", *(f"guard {wish}" for wish in WISHES), "ca
 
 
 def fault_columns(text: str) -> Iterator[str]:
-    """Yields the cells, with the heading, of the first column whose heading begins with `Fault`, of each table in a text."""
+    """Yields the cells, with the heading and the dashes, of the first column whose heading begins with `Fault`, of each table in a text."""
     column: int | None = None
     for line in text.splitlines():
         cells = line.split("|") if line.startswith("|") else []

@@ -252,7 +252,7 @@ class Packages(built.OfLibrary):
         self.assertEqual({package["packageFileName"] for package in packages}, {os.path.basename(path) for path in self.packages.values()})
 
     def digests(self, name: str) -> dict[str, dict[str, str]]:
-        """The SHA-1 and the SHA-256 of each file of an unpacked package, by its path, which begins with `./`."""
+        """The SHA-1 and the SHA-256 of each file that a package installs, but not of links, by its path, which begins with `./`."""
         digests: dict[str, dict[str, str]] = {}
         for path in output_of("find", ".", "-name", "DEBIAN", "-prune", "-o", "-type", "f", "-print", cwd=self.inside(name))[1].splitlines():
             octets = pathlib.Path(self.inside(name, path)).read_bytes()
@@ -275,7 +275,7 @@ class Packages(built.OfLibrary):
 
 @needs.needs("dpkg-deb", "go", *needs.LIBRARY)
 class Scripts(unittest.TestCase):
-    """What runs where a package is installed, what packages.sh refuses, and the manual of the daemon."""
+    """What runs where a package is installed, what packages.sh refuses, the modules that it lists, and the manual of the daemon."""
 
     def test_maintainer_is_required(self) -> None:
         """Without the name and the address of a maintainer, or with an option that is misspelled, no packages are made."""

@@ -41,7 +41,7 @@ class Lists(unittest.TestCase):
                 self.assertIn(os.path.basename(row.page), text_of(f"tests/suite/{row.test}.py"))
 
     def test_names(self) -> None:
-        """Of a command in backticks, as `spki-cert sign --by`, `spki` or `spki-cert` has the word, `spki-cert` the options, `spki-authd` the flag."""
+        """In backticks the word behind `spki` or `spki-cert` is a command of it, which has the options; behind `spki-authd` it is a flag."""
         helps: dict[str, str] = {}
         flags = "".join(text_of(path) for path in tracked() if path.startswith("apps/spki-authd/") and path.endswith(".go"))
         for command in self.commands:

@@ -30,7 +30,7 @@ from harness.support import TOP, loaded, read, run, text_of
 FOLDER = os.path.join(TOP, "apps", "playground")
 BOXES = ("acl", "sequence", "key", "labels")
 MARKUP = '<img src="x" onerror="attacked=1"><script>attacked=1</script>'
-# How long a question may take on a page whose answers are compared, and on one that is given a hostile text. The first ends what hangs.
+# How long a question may take on a page, and on that of `Hostile`. Whatever else hangs is ended after the first.
 SECONDS, HOSTILE_SECONDS = 600, 2
 # How often at most a question with HOSTILE_SECONDS is asked until it is answered in time, since the machine may be slow.
 TRIES = 100
@@ -109,7 +109,7 @@ def hostile_question():
 
 
 def long_question():
-    """A question of about 50,000 octets, most of it in the access list and the certificates, for bench/playground.py."""
+    """A question of about 50,000 octets, most of it in the access list and the certificate, for bench/playground.py."""
     entries = "".join(f"\n (entry (public-key (test other{place})) (tag (packages read (* prefix /other{place}/))))" for place in range(360))
     paths = " ".join(f"/builds/web/{place:05}.html" for place in range(950))
     sequence = STORY["sequence"].replace("(* prefix /builds/web/)", f"(* set (* prefix /builds/web/) {paths})")
@@ -217,7 +217,7 @@ class Answers(OfPage):
             self.assertEqual(why, f"{says}; choose a date and a time of day, in UTC")
 
     def test_a_request_of_one_string_with_spaces_gets_a_hint(self) -> None:
-        """A request on one line is one string with spaces, where several words were meant. It is denied with a hint."""
+        """A request on one line is one string with spaces, where several words were meant. It is denied, with a hint that others do not get."""
         for answer in (self.page.ask("question", **{**STORY, "request": ["packages read /builds/web/index.html"]}),
                        self.page.ask("case", text=text_of("examples/guide/granted.sexp").replace("(packages read /builds", '"packages read /builds')
                                      .replace('index.html)', 'index.html"'))):
@@ -257,7 +257,7 @@ class Answers(OfPage):
         self.assertEqual(self.page.ask("question", **{**STORY, "request": ["x" * (65_536 + 1)]})["line"], "refused question TooLong")
 
     def test_the_times_of_an_answer(self) -> None:
-        """`times` gives the spans of time in which the answer is the same, and where each begins and ends."""
+        """`times` gives the spans of time in which the answer is the same: where each begins (None for the first) and, but for the last, ends."""
         times = self.page.ask("times", **STORY)
         limit = {"word": "after", "moment": "2026-06-30 23:59:59"}
         self.assertEqual(times["spans"], [{"answer": "yes entry 1", "begin": None, "end": limit}, {"answer": "no", "begin": limit}])
@@ -434,13 +434,13 @@ class Requests(OfPage):
             self.assertEqual(self.post(path), 403, path)
 
     def test_only_files_of_the_page(self) -> None:
-        """GET gives only files of page/, and no job, such as `question`. POST does only jobs."""
+        """GET gives only files of page/ (and start.json), and no job, such as `question`. POST does only jobs."""
         for name in ("../server.py", "..%2fserver.py", "/etc/passwd", "page.js/", "question", "./page.js"):
             self.assertEqual(self.page.send("GET", self.page.address.path + name)[0], 404, name)
         self.assertEqual(self.post(self.page.address.path + "no-such-job"), 404)
 
     def test_bodies_that_are_refused(self) -> None:
-        """A body of over 1 MiB is refused by its length, before it is sent; also one without a length, of no type of JSON, or that is no object."""
+        """A body of over 1 MiB is refused by its length, before it is sent; also one without a length, not sent as JSON, or that is no object."""
         for length in (str((1 << 20) + 1), "9" * 30):
             self.assertEqual(self.post(body="", Content_Length=length), 413)
         self.assertEqual(self.post(body="", Content_Length="-1"), 411)
@@ -449,7 +449,7 @@ class Requests(OfPage):
         for body in ("", "[]", "{", "[" * 100_000, "5"):
             self.assertEqual(self.post(body=body), 400, body[:9])
 
-    def test_headers_of_every_reply(self) -> None:
+    def test_headers_of_replies(self) -> None:
         for path in (self.page.address.path, self.page.address.path + "page.js", "/", self.page.address.path + "none"):
             headers = self.page.send("GET", path)[1]
             self.assertIn("default-src 'none'", headers["Content-Security-Policy"])
@@ -461,8 +461,8 @@ class Requests(OfPage):
     def test_address_is_on_loopback(self) -> None:
         self.assertEqual(self.page.address.hostname, "127.0.0.1")
 
-    def test_no_script_makes_markup_of_text(self) -> None:
-        for name in os.listdir(os.path.join(FOLDER, "page")):
+    def test_no_file_makes_markup_or_code_of_text(self) -> None:
+        for name in os.listdir(os.path.join(FOLDER, "page")):  # (nor names another server)
             text = text_of(os.path.join("apps", "playground", "page", name))
             for word in ("innerHTML", "outerHTML", "insertAdjacentHTML", "document.write", "eval(", "Function(", "srcdoc", "https://"):
                 self.assertNotIn(word, text, name)
@@ -542,12 +542,12 @@ class InChromium(OfPage):
         """Waits until a script returns something true, and returns it. `arguments` are those of the script. Fails after SECONDS."""
         end = time.monotonic() + SECONDS
         while not (value := self.browser.execute_script(script, *arguments)):
-            self.assertLess(time.monotonic(), end, f"{script} {arguments}: {self.text_shown('verdict')}")
+            self.assertLess(time.monotonic(), end, f"{script} {arguments}: {self.text_in('verdict')}")
             time.sleep(0.01)
         return value
 
-    def text_shown(self, name):
-        """The text of an element of the page, by its id."""
+    def text_in(self, name):
+        """The text of an element of the page, by its id, also if it is not shown. What is blank between words is one space."""
         return self.browser.execute_script("return document.getElementById(arguments[0]).textContent.trim().replace(/\\s+/g, ' ')", name)
 
     def paste(self, name, text):
@@ -588,8 +588,8 @@ class InChromium(OfPage):
                                     "box.focus(); box.setSelectionRange(at, at)")
         self.press("x")
         self.until("return document.querySelector('[data-box=acl] mark')?.textContent === '(propxagate'")
-        self.assertEqual(self.text_shown("kind"), "Refused")
-        self.assertIn("is `propagate` meant?", self.text_shown("acl-fault"))
+        self.assertEqual(self.text_in("kind"), "Refused")
+        self.assertIn("is `propagate` meant?", self.text_in("acl-fault"))
         self.assertEqual(self.browser.execute_script("return document.getElementById('acl').getAttribute('aria-invalid')"), "true")
         from selenium.webdriver.common.keys import Keys
         self.press(Keys.BACKSPACE)
@@ -628,14 +628,14 @@ class InChromium(OfPage):
         ActionChains(self.browser).key_down(Keys.CONTROL).send_keys("a").key_up(Keys.CONTROL).perform()
         self.press("packages", Keys.ENTER, "write", Keys.ENTER, "/builds/x")
         self.until("return document.getElementById('line').textContent === 'no, entry 1 TagLacks'")
-        self.assertIn("does not contain this request", self.text_shown("spoken"))
+        self.assertIn("does not contain this request", self.text_in("spoken"))
         self.browser.execute_script("document.getElementById('tab-question').focus()")
         self.press(Keys.ARROW_RIGHT, Keys.ARROW_RIGHT)
         self.assertEqual(self.focused(), "tab-tags")
         self.until("return document.getElementById('both').textContent === '(packages read (* prefix /builds/web/))'")
 
     def test_everything_has_a_name(self) -> None:
-        """In each tab, each element that can be used has a name for screen readers."""
+        """In each tab, each picture and each element that can be used has a name for screen readers."""
         for tab in ("question", "case", "tags", "forms"):
             self.open_tab(tab)
             self.browser.execute_script("document.querySelectorAll('details').forEach((it) => it.open = true)")
@@ -696,7 +696,7 @@ class InChromium(OfPage):
     # ---- answers to another text
 
     def replace_answers(self, kind, answer):
-        """From now on the page gets `answer`, and not the server's, to questions of a kind. It is a promise of a `Response`, in JavaScript."""
+        """Until the page is loaded again, it gets `answer`, a promise of a `Response` in JavaScript, to each question of a kind, as `question`."""
         self.browser.execute_script(f"const before = fetch; window.fetch = (url, options) => url === '{kind}' ? {answer} : before(url, options)")
 
     def check_nothing_left(self):
@@ -705,7 +705,7 @@ class InChromium(OfPage):
                                            ".filter((it) => it.checkVisibility({visibilityProperty: true}) && it.getBoundingClientRect().height"
                                            " && (it.textContent || it.id === 'bar')).map((it) => it.textContent)")
         self.assertEqual(seen, [])
-        self.assertNotRegex(self.text_shown("verdict"), "Yes|Carol|entry")
+        self.assertNotRegex(self.text_in("verdict"), "Yes|Carol|entry")
         self.assertEqual(self.browser.execute_script("return document.getElementById('verdict').dataset.kind"), "none")
 
     def test_an_answer_that_does_not_come(self) -> None:
@@ -723,7 +723,7 @@ class InChromium(OfPage):
         self.replace_answers("question", "Promise.resolve(new Response('{\"labelFaults\": [], \"notice\": \"It took too long.\"}'))")
         self.paste("acl", STORY["acl"])
         self.until("return document.getElementById('verdict').textContent.includes('It took too long.')")
-        self.assertEqual(self.text_shown("kind"), "No answer")
+        self.assertEqual(self.text_in("kind"), "No answer")
         self.check_nothing_left()
 
     def test_an_answer_to_an_earlier_text(self) -> None:
@@ -735,7 +735,7 @@ class InChromium(OfPage):
         self.paste("request", "packages\nread")
         self.browser.execute_script("replies[0]()")
         self.until("return replies.length === 2 || document.getElementById('title').textContent === 'Waiting for the answer.'")
-        self.assertNotIn("an earlier answer", self.text_shown("verdict"))
+        self.assertNotIn("an earlier answer", self.text_in("verdict"))
         self.browser.execute_script("replies.at(-1)()")
         self.until("return document.getElementById('title').textContent === 'an earlier answer'")
 
@@ -760,7 +760,7 @@ class InChromium(OfPage):
         for tab, card in (("tags", "tags-card"), ("forms", "forms-card")):
             self.open_tab(tab)
             self.until("return document.getElementById(arguments[0]).textContent.includes('The server does not answer')", card)
-            self.assertNotRegex(self.text_shown(card), "contains it|packages|3:fgh")
+            self.assertNotRegex(self.text_in(card), "contains it|packages|3:fgh")
         # (the browser logs each connection that is refused)
         self.browser.get_log("browser")
 
@@ -774,7 +774,7 @@ class Starting(built.OfProgram):
             for name in ("apps/playground", "apps/spki-cert", "bindings/python", "examples/guide"):
                 shutil.copytree(os.path.join(TOP, name), os.path.join(room, name))
             words = [sys.executable, "apps/playground", "--no-browser"]
-            bare = {"HOME": room, "PATH": os.path.join(room, "none")}
+            bare = {"HOME": room, "PATH": os.path.join(room, "none")}  # (where no program is found)
             done = subprocess.run(words, cwd=room, env=bare, stdout=subprocess.PIPE, stderr=subprocess.PIPE, text=True, timeout=SECONDS)
             self.assertEqual((done.returncode, done.stdout), (2, ""))
             self.assertIn("`tests/run --quick words`", done.stderr)
@@ -788,7 +788,7 @@ class Starting(built.OfProgram):
                 started.terminate()
             self.assertRegex("".join(lines), r"^http://127\.0\.0\.1:.*\nspki \(compiled without proofs\) decides; ctrl-c ends the page\n$")
 
-    def test_a_port_that_is_not_free(self) -> None:
+    def test_a_port_that_is_taken_or_too_large(self) -> None:
         with socket.create_server(("127.0.0.1", 0)) as other:
             for port, message in ((other.getsockname()[1], "Address already in use"), (65_536, "must be 0-65535")):
                 done = subprocess.run([sys.executable, FOLDER, "--no-browser", "--engine", "program", "--port", str(port)], capture_output=True,

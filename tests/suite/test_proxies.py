@@ -72,7 +72,7 @@ class Proxies(unittest.TestCase):
 
     def ask(self, method: str, target: str, change: Change = same, host: str = NAME, body: bytes = b"") -> str:
         """Sends a signed request through the proxy. `change` changes the lines with its signature before they are sent. Returns `valid`, or the
-        verifier's refusal, or the status if the proxy itself answers."""
+        verifier's refusal, or the status if the proxy itself answers. The signature is for NAME, also if `host`, which is sent, is another."""
         fields = self.signer.fields(method, f"http://{NAME}{target}", body)
         length = [f"Content-Length: {len(body)}"] if body else []
         lines = change([f"{name}: {value}" for name, value in fields.items()])

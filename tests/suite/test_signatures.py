@@ -66,7 +66,7 @@ class Handler(http.server.BaseHTTPRequestHandler):
 
 
 class Service(http.server.ThreadingHTTPServer):
-    """A service on a port of its own. `requests` has the method, path and body of each request that it got."""
+    """A service at `name`, an address with a port of its own. `requests` has the method, path and body of each request that it got."""
 
     def __init__(self) -> None:
         import spki_http
@@ -250,8 +250,8 @@ def answer_by_check(verifier: Any, message: Any) -> str:
 
 
 def mutated(row: Row, chance: random.Random) -> Row:
-    """A row of which one text has another letter, one less or one more, or a part of up to 39 twice or not at all. The same request never came before
-    (None). The row keeps its answer, which may be wrong now."""
+    """A row of which one text has another letter, one less or one more, or a part of up to 39 letters twice or not at all; by chance it stays as it
+    was. The same request never came before (None). The row keeps its answer, which may be wrong now."""
     name, message, now, _, old_answer = row
     texts = [message.method, message.authority, message.target, *(text for pair in message.fields for text in pair)]
     place = chance.randrange(len(texts))

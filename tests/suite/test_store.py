@@ -130,7 +130,7 @@ class Command(OfStore):
         A server that only PGHOST names is found, and the name of a schema may be a reserved word of SQL."""
         for text in (b"(entry (public-key (test a)))", b"(entry (public-key (test a)) (tag (*))) x", b"", b"(acl)", b"(entry (tag (*)))"):
             self.spki_store(2, "add", self.file(text))
-        with mock.patch.object(transfer, "MOST_AT_ONCE", 1):
+        with mock.patch.object(transfer, "MOST_AT_ONCE", 1):  # (so that a wrong list could be added in part)
             for text in (b"(3:acl" + ENTRY + b"(5:entry))", b"(3:acl(7:version1:1)" + ENTRY + b")"):
                 self.spki_store(2, "import", self.file(text))
         self.spki_store(2, "end", "00")
@@ -146,7 +146,7 @@ class Command(OfStore):
     @needs.needs("openssl", "import cryptography")
     def test_spki_cert_adds_an_entry(self) -> None:
         """`spki-cert entry --store` has `spki-store` add one entry: none without a server, if the tag lacks a request of `--try`, or with `--acl`."""
-        store = Store(self.server.address)
+        store = Store(self.server.address)  # (in the schema `spki`, since `spki-cert` names none)
         self.addCleanup(store.close)
         store.make()
         self.addCleanup(store.connection.execute, "DROP SCHEMA spki CASCADE")
@@ -176,7 +176,7 @@ class Command(OfStore):
 
     def test_two_imports_at_once(self) -> None:
         """A part of a list that another import of the same list has added meanwhile is refused."""
-        part = self.store, [ENTRY], bytes(32), 0, len(ENTRY), 1
+        part = self.store, [ENTRY], bytes(32), 0, len(ENTRY), 1  # (one entry, of the list with a digest of zeros, from its beginning)
         transfer.add_noted(*part, is_done=False)
         self.assertRaises(texts.Wrong, transfer.add_noted, *part, is_done=False)
         self.assertEqual([row.text for row in self.store.all()], [ENTRY])
@@ -207,7 +207,7 @@ class Command(OfStore):
         self.check_entries(wanted)
 
     def test_older_store_in_postgresql(self) -> None:
-        """The entries of the example of version 0.1.0 are taken over from PostgreSQL, by the statement of the page, in time for a long one."""
+        """The entries of the example of version 0.1.0 are taken over from PostgreSQL, a long one too, by the statement of the page, in 10 seconds."""
         wanted, rows = self.rows_of_older_store()
         statement, = re.findall(r"`(INSERT INTO spki\.entries [^`]*)`", text_of("apps/spki-store/README.md"))
         old = f"{self.schema}_old"
@@ -232,8 +232,8 @@ class Schema(OfStore):
             self.store.rows(text, *values)
 
     def test_the_database_computes_principals(self) -> None:
-        """The database computes the principal of a row from its text: the SHA-256 digest of a key, or the digest of a hash. It refuses a text that is
-        not one list in canonical form that begins with `entry` and a principal."""
+        """The database computes the principal of a row from its text: the SHA-256 digest of a key, or the digest of a hash, also in a name. A text is
+        refused that is not one list in canonical form that begins with `entry` and a principal."""
         key = b"(10:public-key(4:test1:a))"
         hinted = b"(5:entry(4:hash6:sha256[1:x]32:" + b"h" * 32 + b")(3:tag(1:*)))"  # (its digest has a display hint)
         for text, wanted in {ENTRY: hashlib.sha256(key).digest(), ENTRY_OF_ZEROS: bytes(32), hinted: b"h" * 32,
@@ -271,7 +271,7 @@ class Schema(OfStore):
         self.assertEqual(self.spki_store(1, "check").splitlines()[-1], "entries checked: 2, wrong 1")
 
     def test_what_readers_and_writers_may_do(self) -> None:
-        """A reader cannot write or see who changed what. A writer adds, removes and ends, but cannot change a row or the log, nor can the owner."""
+        """A reader cannot write, or see a change's account or text. A writer adds, removes, ends and beats. The owner too edits no entry or log."""
         self.store.add(ENTRY)
         no_privilege = psycopg.errors.InsufficientPrivilege
         for role in ("reader", "writer"):
@@ -386,7 +386,7 @@ class WithDriver(OfDaemon):
         """Generated questions are asked while another client changes the store. Each answer is that of the guard of the whole list."""
         output = self.go("test", *WITH_DRIVER, "-count=1", "-run", "ToStore|Transact|Pool|Quoted", "-v", ".", SPKI_STORE_HOST=self.server.folder,
                          SPKI_STORE_SEED=str(secrets.randbelow(1 << 32)), SPKI_STORE_SCHEMA=self.schema, SPKI_STORE_QUESTIONS=str(QUESTIONS))
-        self.assertIn("--- PASS: TestQuestionsToStore", output)
+        self.assertIn("--- PASS: TestQuestionsToStore", output)  # (it asks them; the others try parts of the client)
 
 
 # `stale_seconds` of the daemons: the state of a store that is older decides nothing.
@@ -569,7 +569,7 @@ class Asker(threading.Thread):
 
 
 class Heartbeat(OfStore):
-    """The heartbeat, where another server takes the place of the primary, and where a host does not answer."""
+    """The heartbeat, where another server takes the place of the primary, where a host does not answer, and where no server takes a beat."""
 
     def last_beat(self, server: databases.Server) -> int:
         """The number of the last heartbeat that a server has."""
@@ -628,7 +628,7 @@ class Heartbeat(OfStore):
         """If no server takes a first beat, the heartbeat tries again after a pause."""
         fails, pauses = mock.patch.object(Beats, "beat", side_effect=psycopg.OperationalError), mock.patch("time.sleep", side_effect=[None, EOFError])
         with fails, pauses as sleep, contextlib.redirect_stderr(io.StringIO()), self.assertRaises(EOFError):
-            commands.beat(self.store, argparse.Namespace(times=0))
+            commands.beat(self.store, argparse.Namespace(times=0))  # (0: without end, so the second pause ends it)
         self.assertTrue(all(call.args[0] > 0 for call in sleep.call_args_list))
 
 

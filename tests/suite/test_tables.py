@@ -12,7 +12,7 @@ from rows import Row, chains, fault_of, pairs, rows_of
 
 Test = Callable[[built.OfProgram], None]
 SETS = len(pairs.sets())
-# The program that `rt try` compiles is not optimized: these take it a minute and more.
+# The program that `rt try` compiles is not optimized: these would take it a minute and more, and are left out then.
 SLOW_WITHOUT_PROOFS = ("chains:chain with 101 strings",)
 
 

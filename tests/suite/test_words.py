@@ -1,6 +1,6 @@
 """Runs the program with words that ask for no command, and with those that ask for help.
 
-Wrong words end with status 2, nothing on standard output and a text on standard error that says what is wrong; help with status 0, nothing on
+Wrong words end with status 2, nothing on standard output and a message or the usage on standard error; help with status 0, nothing on
 standard output and the help on standard error, which names the exit statuses 0, 2 and 3. The help of the program begins with what it does."""
 import subprocess
 
