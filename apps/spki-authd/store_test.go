@@ -102,7 +102,7 @@ func (t *table) changesSince(number int64) (pollResult, error) {
 	return result, t.fault
 }
 
-// allEnded returns the ended certificates of the table, and the state.
+// allEnded returns `ended`, in which those of `changes` are not, and the state.
 func (t *table) allEnded() (pollResult, error) {
 	return pollResult{storeState: t.state, ended: t.ended}, t.fault
 }
@@ -113,7 +113,8 @@ func (t *table) chains(key digest) ([]keptChain, error) {
 	return t.kept[key], t.fault
 }
 
-// keep keeps each sequence, whatever the limits are, unless the table has a fault. It returns keepAnswer or `kept`.
+// keep keeps each sequence in `kept`, which must not be nil, whatever the limits are, unless the table has a fault. It returns keepAnswer, or `kept`
+// if that is empty.
 func (t *table) keep(key digest, chain keptChain, limits *chains) (answer, error) {
 	if t.fault == nil {
 		t.kept[key] = append(t.kept[key], chain)
@@ -389,7 +390,8 @@ func (s *storedSite) expectLeft(t *testing.T, name string, wanted answer) {
 	}
 }
 
-// TestStoredChains leaves certificates in a store, where another daemon finds them until they end. What was just read is not read again.
+// TestStoredChains leaves a certificate without an end in a store, where another daemon finds it for 90 days, the usual `days` of `chains`. What was
+// just read is not read again.
 func TestStoredChains(t *testing.T) {
 	s := newStoredWithChains(t)
 	s.expectKept(t, "nothing is kept", 401, "")
@@ -488,7 +490,8 @@ func TestStoreWithoutMemory(t *testing.T) {
 	s.expectAlice(t, "with memory", 200)
 }
 
-// TestStoreConfigs reads configurations of stores: two right ones, whose settings for the driver are compared, and wrong ones, each of which is refused.
+// TestStoreConfigs reads configurations of stores: two right ones, of which some defaults and settings for the driver are compared, and wrong ones,
+// each of which is refused.
 func TestStoreConfigs(t *testing.T) {
 	withStore := func(fields string) string {
 		return strings.Replace(leastConfig, `"/acl"`, `{"postgres": {`+fields+`}}`, 1)
