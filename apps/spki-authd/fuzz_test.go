@@ -73,7 +73,8 @@ func FuzzSequence(f *testing.F) {
 }
 
 // FuzzLeft leaves octets with the daemon as certificates, for later requests by Bob's key: they are kept (201), or refused (400). What is kept has
-// this key in it, or its hash by SHA-256, and no more is granted by it than checkGrant allows.
+// this key in it, or its hash by SHA-256 (the seeds have no other hash, and nobody signs new ones), and no more is granted by it than checkGrant
+// allows.
 func FuzzLeft(f *testing.F) {
 	s := newSite(f, `, "chains": {"folder": "`+f.TempDir()+`"}`+withSignatures)
 	// (`hashed` names Bob by the hash of his key, and has a comment with a display hint)

@@ -377,7 +377,7 @@ func TestClockAhead(t *testing.T) {
 	if count(now) != 1 || keptTexts(t, kept) != "a1 b1" {
 		t.Error("it is lost: ", keptTexts(t, kept))
 	}
-	// (the sequences end after nine days: 8 and 10 days before these starts)
+	// (a start takes the times of the files, which are those of this test: so both sequences end after nine days, 8 and 10 days before these starts)
 	for _, row := range []struct {
 		days, count int
 		held        string

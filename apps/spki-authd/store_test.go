@@ -144,6 +144,7 @@ func newStored(t testing.TB, fields ...string) *storedSite {
 	open := func(entries []byte) (*guard.Guard, error) {
 		return guard.Open([]byte("(3:acl"+string(entries)+")"), guard.Strict, guard.Limits{})
 	}
+	// (no server is asked: `check` puts in the usual values)
 	options := &storeSettings{Host: "/run", Database: "d", User: "u"}
 	if err := options.check(); err != nil {
 		t.Fatal(err)
