@@ -63,8 +63,8 @@ func (t *table) note(next change) {
 	t.changes = append(t.changes, next)
 }
 
-// rows returns the entries whose key has one of these digests, in the order of their numbers, which are below 100. Before it returns, it calls `meanwhile`
-// once, if that is set.
+// rows returns the state, and the entries whose key has one of these digests, in the order of their numbers, which are below 100. Then it calls
+// `meanwhile`, if that is set, and unsets it.
 func (t *table) rows(digests [][]byte) (rows entryRows, err error) {
 	t.reads++
 	rows.storeState = t.state
@@ -85,7 +85,7 @@ func (t *table) rows(digests [][]byte) (rows entryRows, err error) {
 	return rows, err
 }
 
-// changesSince returns the changes after the one with a number, and the times of these and of that one, if there is such a change.
+// changesSince returns the state, the changes after the one with a number, and the times of these and of that one, if there is such a change.
 func (t *table) changesSince(number int64) (pollResult, error) {
 	result := pollResult{storeState: t.state, times: map[int64]int64{}}
 	if number > 0 && number <= t.state.changes {
@@ -233,8 +233,8 @@ func TestStoreChanges(t *testing.T) {
 	s.expectAlice(t, "without entries", 401)
 }
 
-// TestStaleStore has the heartbeat stop, lag behind, and be ahead. If the last beat is over ten seconds old, or over one second ahead, the answer is 503,
-// also where entries are kept.
+// TestStaleStore has the heartbeat stop, lag behind and be ahead, and the server fail. If the last beat is over ten seconds old, or over one second
+// ahead, the answer is 503, also where entries are kept.
 func TestStaleStore(t *testing.T) {
 	s := newStored(t)
 	s.expectAlice(t, "fresh", 200)
