@@ -30,8 +30,8 @@ type input struct {
 	fault error
 }
 
-// nextString reads a string, LENGTH:OCTETS, and returns its octets. If the input ends or LENGTH is no number, it sets i.fault, and the result must
-// not be used.
+// nextString reads a string, LENGTH:OCTETS, and returns its octets. If the input ends or LENGTH is no number below 2^31, it sets i.fault, and the
+// result must not be used.
 func (i *input) nextString() string {
 	digits, err := i.ReadString(':')
 	if i.fault = err; err != nil {
@@ -46,8 +46,8 @@ func (i *input) nextString() string {
 	return string(octets)
 }
 
-// nextList reads the number of strings, and then these strings, which it returns. If the number cannot be read, or is no number, it sets i.fault and
-// returns nil. If the input ends within the list, i.fault is set by nextString, and the result must not be used.
+// nextList reads the number of strings, and then these strings, which it returns. If the number cannot be read, or its text is no number below 2^31,
+// it sets i.fault and returns nil. If the input ends within the list, i.fault is that of the last string, and the result must not be used.
 func (i *input) nextList() []string {
 	digits := i.nextString()
 	if i.fault != nil {
