@@ -184,7 +184,7 @@ func TestDenialsByKeptChains(t *testing.T) {
 	}
 }
 
-// hashOfKey returns the hash that names a person's key, in canonical form.
+// hashOfKey returns the hash by SHA-256 that names a person's key, in canonical form.
 func (p person) hashOfKey() string {
 	digest := sha256.Sum256([]byte(p.key))
 	return "(4:hash6:sha256" + str(string(digest[:])) + ")"

@@ -263,11 +263,11 @@ func isThere(path string) bool {
 	return err == nil
 }
 
-// A fakeConn is a connection whose statements are not run. It counts those that are open.
+// A fakeConn is a connection to no server: its statements do nothing. It counts those that are open.
 type fakeConn struct {
 	driver.Conn
 	open int
-	// The texts of the statements that were run, in order, and the rows that each returns, or nil for none.
+	// The texts of the statements whose Query was called, in order, and the rows that each returns, or nil for none.
 	ran  []string
 	rows driver.Rows
 	// Why it opens no statement, or nil, and whether it was closed.
