@@ -51,7 +51,8 @@ func FuzzHeaders(f *testing.F) {
 	})
 }
 
-// FuzzSequence shows octets as certificates, in transport form in a right header, so that they reach the guard. 200 is only for what checkGrant allows.
+// FuzzSequence shows octets as certificates, in transport form in a right header, so that they reach the guard. 200 is only for what checkGrant
+// allows. Any other status is 400 or 403: 401 is for requests that show nothing.
 func FuzzSequence(f *testing.F) {
 	s := newSite(f, "")
 	people := []person{s.alice, s.bob, s.carol, s.mallory}
