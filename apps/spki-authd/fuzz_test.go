@@ -51,7 +51,8 @@ func FuzzHeaders(f *testing.F) {
 	})
 }
 
-// FuzzSequence shows octets as certificates, in transport form in a right header, so that they reach the guard. 200 is only for what checkGrant allows.
+// FuzzSequence shows octets as certificates, in transport form in a right header, so that they reach the guard. 200 is only for what checkGrant
+// allows. Any other status is 400 or 403: 401 is for requests that show nothing.
 func FuzzSequence(f *testing.F) {
 	s := newSite(f, "")
 	people := []person{s.alice, s.bob, s.carol, s.mallory}
@@ -73,7 +74,8 @@ func FuzzSequence(f *testing.F) {
 }
 
 // FuzzLeft leaves octets with the daemon as certificates, for later requests by Bob's key: they are kept (201), or refused (400). What is kept has
-// this key in it, or its hash by SHA-256, and no more is granted by it than checkGrant allows.
+// this key in it, or its hash by SHA-256 (the seeds have no other hash, and nobody signs new ones), and no more is granted by it than checkGrant
+// allows.
 func FuzzLeft(f *testing.F) {
 	s := newSite(f, `, "chains": {"folder": "`+f.TempDir()+`"}`+withSignatures)
 	// (`hashed` names Bob by the hash of his key, and has a comment with a display hint)

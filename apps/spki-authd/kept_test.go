@@ -184,7 +184,7 @@ func TestDenialsByKeptChains(t *testing.T) {
 	}
 }
 
-// hashOfKey returns the hash that names a person's key, in canonical form.
+// hashOfKey returns the hash by SHA-256 that names a person's key, in canonical form.
 func (p person) hashOfKey() string {
 	digest := sha256.Sum256([]byte(p.key))
 	return "(4:hash6:sha256" + str(string(digest[:])) + ")"
@@ -377,7 +377,7 @@ func TestClockAhead(t *testing.T) {
 	if count(now) != 1 || keptTexts(t, kept) != "a1 b1" {
 		t.Error("it is lost: ", keptTexts(t, kept))
 	}
-	// (the sequences end after nine days: 8 and 10 days before these starts)
+	// (a start takes the times of the files, which are those of this test: so both sequences end after nine days, 8 and 10 days before these starts)
 	for _, row := range []struct {
 		days, count int
 		held        string

@@ -24,7 +24,7 @@ func TestPaths(t *testing.T) {
 	}
 }
 
-// TestUnclearPaths reads targets that two servers could take for different paths: each is refused.
+// TestUnclearPaths reads targets that are no path, or that two servers could take for different ones: each is refused.
 func TestUnclearPaths(t *testing.T) {
 	for _, target := range []string{
 		"", "*", "a", "a/b", "?", "?/", "http://host/a", "//host/a", "//", "/a//b", "/a//", "///", "/.", "/..", "/./a", "/a/.", "/a/./b", "/a/..",

@@ -18,7 +18,7 @@ import (
 	"conguraki/spki/guard"
 )
 
-// countKept returns the number of sequences that are kept since they were shown and valid.
+// countKept returns the number of sequences that are kept since they were shown and valid. One in both halves, which no test has, would count twice.
 func (s *site) countKept() int {
 	return len(s.sequences.kept.old) + len(s.sequences.kept.young)
 }

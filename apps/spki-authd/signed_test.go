@@ -39,7 +39,7 @@ func (p person) signedHeaders(t testing.TB, method, authority, target, sequence 
 	return pairs
 }
 
-// withValue returns pairs of name and value, with another value for a name.
+// withValue returns pairs of name and value, with another value for a name, in any case of its letters. If no pair has the name, nothing is changed.
 func withValue(pairs []string, name, value string) []string {
 	changed := append([]string{}, pairs...)
 	for place := 0; place < len(changed); place += 2 {
@@ -50,7 +50,7 @@ func withValue(pairs []string, name, value string) []string {
 	return changed
 }
 
-// without returns pairs of name and value, without those of a name.
+// without returns pairs of name and value, without those of a name, in any case of its letters.
 func without(pairs []string, name string) []string {
 	var remaining []string
 	for place := 0; place < len(pairs); place += 2 {

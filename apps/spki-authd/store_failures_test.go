@@ -107,6 +107,7 @@ func (l *timeline) transact(texts []string, values ...driver.Value) (rows [][]dr
 			break
 		}
 	}
+	// (with nil, take opens another connection)
 	writer.slots <- taken
 	return rows, err
 }
@@ -262,11 +263,11 @@ func isThere(path string) bool {
 	return err == nil
 }
 
-// A fakeConn is a connection whose statements are not run. It counts those that are open.
+// A fakeConn is a connection to no server: its statements do nothing. It counts those that are open.
 type fakeConn struct {
 	driver.Conn
 	open int
-	// The texts of the statements that were run, in order, and the rows that each returns, or nil for none.
+	// The texts of the statements whose Query was called, in order, and the rows that each returns, or nil for none.
 	ran  []string
 	rows driver.Rows
 	// Why it opens no statement, or nil, and whether it was closed.
@@ -274,7 +275,7 @@ type fakeConn struct {
 	isClosed bool
 }
 
-// Prepare opens a statement, or fails with c.fault.
+// Prepare returns a statement, which counts as open, and c.fault.
 func (c *fakeConn) Prepare(text string) (driver.Stmt, error) {
 	c.open++
 	return &fakeStatement{conn: c, text: text}, c.fault
@@ -293,7 +294,7 @@ type fakeStatement struct {
 // Close closes the statement.
 func (s *fakeStatement) Close() error { s.conn.open--; return nil }
 
-// Query returns the rows of the connection.
+// Query notes the text of the statement, and returns the rows of the connection, or noRows if it has none.
 func (s *fakeStatement) Query([]driver.Value) (driver.Rows, error) {
 	s.conn.ran = append(s.conn.ran, s.text)
 	if s.conn.rows != nil {
@@ -302,7 +303,7 @@ func (s *fakeStatement) Query([]driver.Value) (driver.Rows, error) {
 	return noRows{}, nil
 }
 
-// The noRows are the rows of a fakeStatement.
+// The noRows are the rows of a fakeConn whose `rows` are nil.
 type noRows struct{}
 
 // Columns returns the names of no columns.
@@ -418,7 +419,8 @@ func (r *endlessRows) Next(row []driver.Value) error {
 	return nil
 }
 
-// TestPoolOfManyRows reads rows without end. They are read until they have over 1 MiB, and their connection is closed, and no other one.
+// TestPoolOfManyRows reads rows without end. The second of half a MiB is one too many, since 1 MiB must also have room for `(3:acl` and `)`. Then
+// their connection is closed, and no other one.
 func TestPoolOfManyRows(t *testing.T) {
 	endless, many, other := new(endlessRows), new(fakeConn), new(fakeConn)
 	many.rows = endless

@@ -96,8 +96,8 @@ func (f *figures) timeOf(number int) time.Duration {
 	return took
 }
 
-// decide asks the store as the daemon does: a list that another goroutine has dropped meanwhile is asked for again. The question shows no
-// certificates, so no signature is verified. It fails as store.list and the guard do.
+// decide asks the store as the daemon does: a list that another goroutine has dropped meanwhile is asked for again. One that isPassing is left to
+// Go's collector. The question shows no certificates, so no signature is verified. It fails as store.list and the guard do.
 func (f *figures) decide(question guard.Question) (guard.Decision, error) {
 	for {
 		list, err := f.store.list(&question)

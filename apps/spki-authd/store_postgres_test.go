@@ -231,7 +231,8 @@ func answerBy(opened *guard.Guard, numbers []int, question guard.Question) strin
 }
 
 // answerOfStore returns the answer by the list that the store returns for a question: answerBy says what that is. If the store returns none, it is the
-// library's refusal of the question, or `failed` with any other error behind it. If the list was closed meanwhile, it asks again.
+// library's refusal of the question, or `failed` with any other error behind it. If the list was closed meanwhile, it asks again. One that isPassing
+// is left to Go's collector.
 func (r *changingStore) answerOfStore(question guard.Question) string {
 	for {
 		list, err := r.store.list(&question)

@@ -63,8 +63,8 @@ func (t *table) note(next change) {
 	t.changes = append(t.changes, next)
 }
 
-// rows returns the entries whose key has one of these digests, in the order of their numbers, which are below 100. Before it returns, it calls `meanwhile`
-// once, if that is set.
+// rows returns the state, and the entries whose key has one of these digests, in the order of their numbers, which are below 100. Then it calls
+// `meanwhile`, if that is set, and unsets it.
 func (t *table) rows(digests [][]byte) (rows entryRows, err error) {
 	t.reads++
 	rows.storeState = t.state
@@ -85,7 +85,7 @@ func (t *table) rows(digests [][]byte) (rows entryRows, err error) {
 	return rows, err
 }
 
-// changesSince returns the changes after the one with a number, and the times of these and of that one, if there is such a change.
+// changesSince returns the state, the changes after the one with a number, and the times of these and of that one, if there is such a change.
 func (t *table) changesSince(number int64) (pollResult, error) {
 	result := pollResult{storeState: t.state, times: map[int64]int64{}}
 	if number > 0 && number <= t.state.changes {
@@ -102,7 +102,7 @@ func (t *table) changesSince(number int64) (pollResult, error) {
 	return result, t.fault
 }
 
-// allEnded returns the ended certificates of the table, and the state.
+// allEnded returns `ended`, in which those of `changes` are not, and the state.
 func (t *table) allEnded() (pollResult, error) {
 	return pollResult{storeState: t.state, ended: t.ended}, t.fault
 }
@@ -113,7 +113,8 @@ func (t *table) chains(key digest) ([]keptChain, error) {
 	return t.kept[key], t.fault
 }
 
-// keep keeps each sequence, whatever the limits are, unless the table has a fault. It returns keepAnswer or `kept`.
+// keep keeps each sequence in `kept`, which must not be nil, whatever the limits are, unless the table has a fault. It returns keepAnswer, or `kept`
+// if that is empty.
 func (t *table) keep(key digest, chain keptChain, limits *chains) (answer, error) {
 	if t.fault == nil {
 		t.kept[key] = append(t.kept[key], chain)
@@ -143,6 +144,7 @@ func newStored(t testing.TB, fields ...string) *storedSite {
 	open := func(entries []byte) (*guard.Guard, error) {
 		return guard.Open([]byte("(3:acl"+string(entries)+")"), guard.Strict, guard.Limits{})
 	}
+	// (no server is asked: `check` puts in the usual values)
 	options := &storeSettings{Host: "/run", Database: "d", User: "u"}
 	if err := options.check(); err != nil {
 		t.Fatal(err)
@@ -231,8 +233,8 @@ func TestStoreChanges(t *testing.T) {
 	s.expectAlice(t, "without entries", 401)
 }
 
-// TestStaleStore has the heartbeat stop, lag behind, and be ahead. If the last beat is over ten seconds old, or over one second ahead, the answer is 503,
-// also where entries are kept.
+// TestStaleStore has the heartbeat stop, lag behind and be ahead, and the server fail. If the last beat is over ten seconds old, or over one second
+// ahead, the answer is 503, also where entries are kept.
 func TestStaleStore(t *testing.T) {
 	s := newStored(t)
 	s.expectAlice(t, "fresh", 200)
@@ -389,7 +391,8 @@ func (s *storedSite) expectLeft(t *testing.T, name string, wanted answer) {
 	}
 }
 
-// TestStoredChains leaves certificates in a store, where another daemon finds them until they end. What was just read is not read again.
+// TestStoredChains leaves a certificate without an end in a store, where another daemon finds it for 90 days, the usual `days` of `chains`. What was
+// just read is not read again.
 func TestStoredChains(t *testing.T) {
 	s := newStoredWithChains(t)
 	s.expectKept(t, "nothing is kept", 401, "")
@@ -488,7 +491,8 @@ func TestStoreWithoutMemory(t *testing.T) {
 	s.expectAlice(t, "with memory", 200)
 }
 
-// TestStoreConfigs reads configurations of stores: two right ones, whose settings for the driver are compared, and wrong ones, each of which is refused.
+// TestStoreConfigs reads configurations of stores: two right ones, of which some defaults and settings for the driver are compared, and wrong ones,
+// each of which is refused.
 func TestStoreConfigs(t *testing.T) {
 	withStore := func(fields string) string {
 		return strings.Replace(leastConfig, `"/acl"`, `{"postgres": {`+fields+`}}`, 1)

@@ -56,8 +56,8 @@ type Event struct {
 }
 
 // Logged returns a copy of the guard that calls a function after each Decide, DecideContext, DecideVerified and Require, before they return, in place
-// of that of an earlier Logged. `g` itself stays as it was. The function may be called by several goroutines at the same time. If it panics, so does
-// the decision, and nothing is granted. It is not called for a decision whose verifier panics.
+// of that of an earlier Logged, or none for nil. `g` itself stays as it was. The function may be called by several goroutines at the same time. If it
+// panics, so does the decision, and nothing is granted. It is not called for a decision whose verifier panics.
 func (g *Guard) Logged(log func(Event)) *Guard {
 	return &Guard{g.shared, log, g.answerOctets}
 }

@@ -692,7 +692,8 @@ func TestContextThatEndsInACall(t *testing.T) {
 	}
 }
 
-// questionByLongKey returns a question with `times` certificates by one key of `octets` octets, which their issuers and signatures name by its hash.
+// questionByLongKey returns a question by b with `times` times the same certificate, by a key with a string of `octets` octets. The key is in front,
+// and issuer and signature name it by its hash.
 func questionByLongKey(t testing.TB, times, octets int) guard.Question {
 	t.Helper()
 	key := fmt.Sprintf("(10:public-key(4:test%d:%s))", octets, strings.Repeat("x", octets))
@@ -707,8 +708,8 @@ func questionByLongKey(t testing.TB, times, octets int) guard.Question {
 	return question
 }
 
-// TestSignaturesAreCopiedOneByOne lists 200 signatures by one key of 100,000 octets. No more is allocated than 10 such keys have: a signature is
-// copied just before its call, and the keys of neighbours, which are equal here, are copied once.
+// TestSignaturesAreCopiedOneByOne lists 200 signatures by one key with a string of 100,000 octets. No more is allocated than 10 such strings have:
+// a signature is copied just before its call, and the keys of neighbours, which are equal here, are copied once.
 func TestSignaturesAreCopiedOneByOne(t *testing.T) {
 	opened, err := guard.Open([]byte(list), guard.Strict, guard.Highest())
 	if err != nil {

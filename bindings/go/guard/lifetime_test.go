@@ -65,7 +65,7 @@ func expectUnlisted(t *testing.T, asked *guard.Asked) {
 }
 
 // TestCopies copies a guard and a question by value and drops the originals. The collector must free nothing while a copy is left: it runs twice
-// in each of 20 turns, since the finalizer of what one run finds is called later. Closing one copy closes all of them, and each may be closed again.
+// in each of 20 turns, since the finalizer of what one run finds is called later. Closing one copy closes all of them, and it may be closed again.
 func TestCopies(t *testing.T) {
 	openCopies := func() (guard.Guard, guard.Asked) {
 		opened, err := guard.Open([]byte(list), guard.Strict, guard.Limits{})

@@ -9,8 +9,10 @@ func isCompatible(version string) bool {
 	return firstTwoNumbers(version) == firstTwoNumbers(Version)
 }
 
-// firstTwoNumbers returns `0.2` of `0.2.0`. A version has three numbers.
+// firstTwoNumbers returns `0.2` of `0.2.0`. A version has three numbers. Of a text with fewer, as another library may have, it returns all but the
+// last.
 func firstTwoNumbers(version string) string {
 	numbers := strings.SplitN(version, ".", 3)
+	// (not [:2], which would panic where there is one number alone)
 	return strings.Join(numbers[:len(numbers)-1], ".")
 }

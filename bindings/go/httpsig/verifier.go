@@ -175,8 +175,8 @@ func signerOf(header http.Header, input *input) (key []byte, octets int, err err
 	return key, octets, nil
 }
 
-// sequenceOf returns the certificates that a request shows, or a sequence of none. It is called after checkMessage, which refuses a request whose
-// field of certificates is not covered or has two lines.
+// sequenceOf returns the field with the certificates as it was sent, also an empty one, or a sequence of none where it is absent. It is called after
+// checkMessage, which refuses a request whose field of certificates is not covered or has two lines.
 func (v *Verifier) sequenceOf(header http.Header) []byte {
 	if sequences := header.Values(v.Sequence); len(sequences) > 0 {
 		return []byte(sequences[0])

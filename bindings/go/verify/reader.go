@@ -50,7 +50,8 @@ func min(a, b int) int {
 	return b
 }
 
-// canonicalText joins its parts: a Go string is added as it is, and a []byte as a string in canonical form, LENGTH:OCTETS.
+// canonicalText joins its parts: a Go string is added as it is, and a []byte as a string in canonical form, LENGTH:OCTETS. A part of another type,
+// also an ed25519.PublicKey, would be left out.
 func canonicalText(parts ...any) []byte {
 	var text []byte
 	for _, part := range parts {

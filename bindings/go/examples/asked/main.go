@@ -24,14 +24,14 @@ import (
 	"conguraki/spki/guard"
 )
 
-// An input reads questions from standard input. `fault` is the error of the last read, such as io.EOF at the end of the input, or nil.
+// An input reads questions from standard input. `fault` is the error of the last read alone, such as io.EOF at the end of the input, or nil.
 type input struct {
 	*bufio.Reader
 	fault error
 }
 
-// nextString reads a string, LENGTH:OCTETS, and returns its octets. If the input ends or LENGTH is no number, it sets i.fault, and the result must
-// not be used.
+// nextString reads a string, LENGTH:OCTETS, and returns its octets. If the input ends or LENGTH is no number below 2^31, it sets i.fault, and the
+// result must not be used.
 func (i *input) nextString() string {
 	digits, err := i.ReadString(':')
 	if i.fault = err; err != nil {
@@ -46,10 +46,15 @@ func (i *input) nextString() string {
 	return string(octets)
 }
 
-// nextList reads the number of strings, and then these strings, which it returns. It returns nil if the number cannot be read.
+// nextList reads the number of strings, and then these strings, which it returns. If the number cannot be read, or its text is no number below 2^31,
+// it sets i.fault and returns nil. If the input ends within the list, i.fault is that of the last string, and the result must not be used.
 func (i *input) nextList() []string {
-	count, err := strconv.ParseUint(i.nextString(), 10, 31)
-	if err != nil {
+	digits := i.nextString()
+	if i.fault != nil {
+		return nil
+	}
+	count, err := strconv.ParseUint(digits, 10, 31)
+	if i.fault = err; err != nil {
 		return nil
 	}
 	list := make([]string, count)
@@ -67,7 +72,8 @@ type task struct {
 	accepted                      map[[3]string]bool
 }
 
-// nextTask reads the next question. At the end of the input i.fault is io.EOF, and the task must not be used.
+// nextTask reads the next question. At the end of the input i.fault is io.EOF, and the task must not be used. Other faults are not found, since the
+// next read replaces i.fault: the test writes whole questions.
 func (i *input) nextTask() task {
 	task := task{command: i.nextString(), policy: i.nextString(), limits: i.nextString(), list: i.nextString(), accepted: map[[3]string]bool{}}
 	task.question.Sequence = []byte(i.nextString())
