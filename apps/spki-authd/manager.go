@@ -3,6 +3,7 @@ package main
 // What the daemon tells the service manager, systemd, and the socket that it may get from it.
 
 import (
+	"errors"
 	"fmt"
 	"io/fs"
 	"net"
@@ -52,6 +53,10 @@ func inheritedSocket() (net.Listener, error) {
 	}
 	if count := os.Getenv(envSockets); count != "1" {
 		return nil, fmt.Errorf("the service manager hands over %s sockets, and must hand over one", count)
+	}
+	// (a listener would also be made of a Unix socket that does not listen)
+	if listens, err := syscall.GetsockoptInt(firstFile, syscall.SOL_SOCKET, syscall.SO_ACCEPTCONN); err != nil || listens == 0 {
+		return nil, errors.New("what the service manager hands over is no socket that takes connections")
 	}
 	file := os.NewFile(firstFile, "the socket of the service manager")
 	defer file.Close()
