@@ -149,7 +149,9 @@ func (s *store) list(question *guard.Question) (*list, error) {
 	}
 	opened, err := s.read(keyDigest, key)
 	if err == nil {
-		err = s.checkFresh()
+		if err = s.checkFresh(); err != nil && opened.isPassing {
+			opened.guard.Close()
+		}
 	}
 	s.noteRead(err)
 	if err != nil {
