@@ -417,8 +417,8 @@ func (d *decider) judgeAll(result *record, key guard.ProvenKey, path string, inq
 }
 
 // judgeByKept tries each sequence that is kept for the key of a record, whose request the list alone denies, until one grants the request. If none
-// does, the answer stays `unauthenticated`, and the record is that of the last sequence, which is returned, or stays as it is without one. If a
-// decision failed, or the kept sequences cannot be read, the answer is `failed`. `before` is the record before the first decision. `path` is decoded.
+// does, the answer is `failed` if a decision failed or the kept sequences cannot be read. Otherwise it stays `unauthenticated`, and the record is
+// that of the last sequence, which is returned, or stays as it is without one. `before` is the record before the first decision. `path` is decoded.
 func (d *decider) judgeByKept(result *record, before record, key guard.ProvenKey, path string, now time.Time) (last string) {
 	chains, err := d.chains.currentOf(result.Key, now)
 	if err != nil {

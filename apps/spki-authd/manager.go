@@ -63,8 +63,8 @@ func inheritedSocket() (net.Listener, error) {
 	return net.FileListener(file)
 }
 
-// checkInherited returns an error if a socket of the service manager is not at the address of the configuration, or, for a Unix socket, if checkGroup
-// or checkMode does for its present group and mode.
+// checkInherited returns an error if a socket of the service manager is not at the address of the configuration, or, for a Unix socket, if it cannot
+// be looked at, or if checkGroup or checkMode does for its present group and mode.
 func (c *config) checkInherited(listener net.Listener) error {
 	address := listener.Addr()
 	inherited := unixScheme + address.String()
@@ -88,7 +88,8 @@ func (c *config) checkInherited(listener net.Listener) error {
 	return c.checkMode(about.Mode().Perm())
 }
 
-// checkGroup returns an error if a socket has another group than `socket_group`. Without that, each group is right. `about` is what Stat says of the socket.
+// checkGroup returns an error if a socket has another group than `socket_group`, or if there is no group of that name. Without `socket_group` each
+// group is right. `about` is what Stat says of the socket.
 func (c *config) checkGroup(about fs.FileInfo) error {
 	if c.SocketGroup == "" {
 		return nil
