@@ -12,9 +12,9 @@ import (
 
 var errStates = errors.New("the daemons have different lists or ended certificates")
 
-// state returns one line: the digest of the lists (digestNow), the number of the entries in files, and the number and the digest of the ended
-// certificates in the file. Two daemons have the same line if these files have the same octets, the lists have the same hosts, prefixes and order,
-// and the last change that was polled of each store is the same. checkStates and the operators' scripts compare these lines.
+// state returns one line: the digest of the lists (digestNow), the number of the entries in files, and the count and the digest of endedCertificates.
+// Two daemons have the same line if the files of both have the same octets, the lists have the same hosts, prefixes and order, and the last change
+// that was polled of each store is the same. checkStates and the operators' scripts compare these lines.
 func (d *daemon) state() string {
 	present := d.keeper.present.Load()
 	return fmt.Sprintf("list %s entries %d ended %d %s\n", present.digestNow(), present.entries(), present.ended.count, present.ended.digest)
