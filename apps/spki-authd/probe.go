@@ -87,7 +87,7 @@ func baseOf(address string) (*url.URL, error) {
 	if err != nil || base.Scheme != "https" && base.Scheme != "http" {
 		return nil, errBase
 	}
-	if base.Host == "" || base.User != nil || base.RawQuery != "" || base.ForceQuery || base.Fragment != "" {
+	if base.Hostname() == "" || base.User != nil || base.RawQuery != "" || base.ForceQuery || base.Fragment != "" {
 		return nil, errBase
 	}
 	base.Path = strings.TrimSuffix(base.Path, "/")
