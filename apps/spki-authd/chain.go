@@ -111,7 +111,7 @@ func lengthOf(text []byte) int {
 		default:
 			digits, _, _ := bytes.Cut(text[place:], []byte(":"))
 			length, err := strconv.Atoi(string(digits))
-			if err != nil || length < 0 {
+			if err != nil || length < 0 || length > len(text) {
 				return len(text)
 			}
 			place += len(digits) + 1 + length

@@ -123,8 +123,9 @@ func fromBase64DER(text string) (first []byte, err error) {
 	return first, nil
 }
 
-// fromXFCC reads the field Cert of `X-Forwarded-Client-Cert`, as Envoy writes it: one element, with fields NAME=VALUE between semicolons, and
-// the certificate as escaped PEM in quotes. It fails for a text of another form, and unless exactly one field is Cert, in upper or lower case.
+// fromXFCC reads the field Cert of `X-Forwarded-Client-Cert`, as Envoy writes it: one element, with fields NAME=VALUE between semicolons, and the
+// certificate as escaped PEM in quotes. It fails for a field without `=`, as cutValue and fromEscapedPEM do, and unless exactly one field is Cert, in
+// upper or lower case. It does not test the other names.
 func fromXFCC(text string) ([]byte, error) {
 	var certificates []string
 	for text != "" {

@@ -1,6 +1,6 @@
 package main
 
-// Whether the time of day goes back, by what the daemon notes of it after each answer and each second.
+// Whether the time of day goes back, by what the daemon notes of it after answers, each second and for -health.
 
 import (
 	"sync/atomic"
@@ -9,15 +9,16 @@ import (
 
 // A clock notes whether the time of day goes back: then certificates whose window was over count again.
 type clock struct {
-	// By how many nanoseconds the time of day was ahead when it was noted last: more than 0 if it was put forward since origin, and less if it was put
-	// back. And how often it went back.
+	// By how many nanoseconds the time of day was ahead when it was noted last: more than 0 if it was put forward since origin or the machine slept,
+	// and less if it was put back. And how often it went back.
 	ahead, timesBack atomic.Int64
 }
 
 // origin is a moment before the daemon notes any. A clock that nobody sets tells the time since then, and so what the time of day should be.
 var origin = time.Now()
 
-// The least by which the time of day goes back. It is a little less than a second, since the two clocks are not read at once.
+// The least step back that counts: a second, less a little, since the two clocks are not read at once. Smaller ones do not count, however many there
+// are.
 const backAtLeast = 900 * time.Millisecond
 
 // note notes a moment of time.Now, which has both clocks, and returns what noteAhead does.
@@ -26,7 +27,8 @@ func (c *clock) note(now time.Time) bool {
 	return c.noteAhead(now.Round(0).Sub(origin.Round(0)) - now.Sub(origin))
 }
 
-// noteAhead notes by how much the time of day is ahead. If that is less than it was by backAtLeast, it counts once more in timesBack, and returns true.
+// noteAhead notes by how much the time of day is ahead. If that is less than it was, by backAtLeast or more, it counts once more in timesBack, and
+// returns true.
 func (c *clock) noteAhead(ahead time.Duration) bool {
 	if time.Duration(c.ahead.Swap(int64(ahead)))-ahead < backAtLeast {
 		return false

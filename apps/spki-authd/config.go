@@ -46,7 +46,7 @@ type config struct {
 	Cache  *int    `json:"cache"`
 	Limits limits  `json:"limits"`
 
-	// The secret that SecretFile has, without its line feed; empty without such a file.
+	// The secret that SecretFile has, as readSecret returns it; empty without such a file.
 	secret []byte
 	// Whether a rule or a list depends on the host, so that a request must have one.
 	needsHost bool
@@ -241,7 +241,7 @@ func (l limits) timeOfRequest() time.Duration {
 	return time.Duration(l.Seconds) * time.Second
 }
 
-// readSecret reads the secret that the web server and the daemon share, without the end of its line. It fails as readFile does, if others than the
+// readSecret reads the secret that the web server and the daemon share, without CR and LF at its end. It fails as readFile does, if others than the
 // file's owner and group may use the file, or if it is not one line of at least leastSecret visible characters.
 func readSecret(path string) ([]byte, error) {
 	about, err := os.Stat(path)

@@ -46,7 +46,7 @@ var (
 	errMainBusy = errors.New("the daemon is busy")
 )
 
-// checkControl returns an error unless `control` is unix:/PATH for a path that a socket can have, and differs from `listen`.
+// checkControl returns an error unless `control` is unix:/PATH, with a path of at most mostSocketPath octets, and differs from `listen`.
 func (c *config) checkControl() error {
 	path := c.controlPath()
 	if c.Control == c.Listen || !strings.HasPrefix(path, "/") || path == c.Control || len(path) > mostSocketPath {

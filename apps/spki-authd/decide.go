@@ -126,9 +126,9 @@ func (d *decider) judge(result *record, key guard.ProvenKey, path, sequence stri
 	}
 }
 
-// decideKnown decides a question by a sequence whose signatures are known to be valid, and notes the sequence in a record. A certificate that has ended
-// early counts as not verified, and so do those behind it. `question` has no sequence of its own. It fails with errNoList or errBusy, if a store is stale
-// or cannot be read, or if the library refuses the question.
+// decideKnown decides a question by a sequence whose signatures are known to be valid, and notes the sequence in a record. A certificate that has
+// ended early counts as not verified, and so do those behind it. `question` has no sequence of its own, and `path` is decoded. It fails with
+// errNoList or errBusy, if a store is stale or cannot be read, or if the library refuses the question.
 func (d *decider) decideKnown(result *record, question guard.Question, path string, sequence *shownSequence) (guard.Decision, error) {
 	signatures, text := sequence.canonical()
 	valid := 0
@@ -231,10 +231,10 @@ func (d *decider) decideBy(result *record, present *access, list *list, question
 	return decision, err
 }
 
-// explain notes in a record, as a text for the log, why judge has denied its request by `sequence`; notExplained, if more denials were explained than
-// explain_rate allows; or the text of the error, if explaining fails. It asks the question again, and decides nothing. Signatures that were not
-// verified, since they could not help, are marked as valid too: so the reasons are what else is missing. If the list was replaced since the decision,
-// the reasons are those of the new one, which the record then names.
+// explain notes in a record, as a text for the log, why judge has denied its request by this `path` and `sequence`; notExplained, if more denials
+// were explained than explain_rate allows; or the text of the error, if explaining fails. It asks the question again, and decides nothing. Signatures
+// that were not verified, since they could not help, are marked as valid too: so the reasons are what else is missing. If the list was replaced since
+// the decision, the reasons are those of the new one, which the record then names.
 func (d *decider) explain(result *record, key guard.ProvenKey, path, sequence string, now time.Time) {
 	const allKeys = ""
 	if !d.explanations.allows(allKeys, d.now()) {
@@ -262,9 +262,9 @@ func (d *decider) explain(result *record, key guard.ProvenKey, path, sequence st
 	result.Reasons = reasonsOf(explanation, err, result.entryNumber)
 }
 
-// countValid verifies signatures up to the first that is not valid, and returns how many precede that one, or the number of all. `certificates` are
-// those that are signed. The record gets the number of signatures that were known. If one is not valid, it gets the certificates up to that one, and
-// the reason.
+// countValid verifies signatures up to the first that is not valid, and returns how many precede that one, or the number of all. `certificates` has
+// the certificates that they sign, in the same order. The record gets the number of signatures that were known. If one is not valid, it gets the
+// certificates up to that one, and the reason.
 func (d *decider) countValid(result *record, certificates *shownSequence, signatures []guard.Signature) int {
 	for place, signature := range signatures {
 		isValid, wasKnown := d.cache.verifies(signature, certificates.digests[place], d.verify)

@@ -12,8 +12,8 @@ import (
 )
 
 // checkFields returns an error if an object in the text of a configuration has a field twice. encoding/json would take the last one, and a reader may
-// see the first. Names that it treats as equal, such as those in upper and lower case, count as one. A text that is no JSON is an error too, unless
-// only its end is missing: parseConfig tests that.
+// see the first. Names that it treats as equal, such as those in upper and lower case, count as one, also in `methods`, where it tells them apart. A
+// text that is no JSON is an error too, unless only its end is missing: parseConfig tests that.
 func checkFields(octets []byte) error {
 	decoder := json.NewDecoder(bytes.NewReader(octets))
 	var open []*object

@@ -1,7 +1,7 @@
 package main
 
 // Chains: sequences of certificates that clients have left with the daemon, for their later requests. A folder has one file for each (folderChains),
-// or a store in PostgreSQL has them (storedChains).
+// or a store in PostgreSQL has them (storedChains). judgeAll decides a request by them.
 
 import (
 	"encoding/base64"
@@ -185,7 +185,8 @@ func openFolderChains(c *chains, now time.Time, mayRemove bool) (*folderChains, 
 // read reads the file of a sequence into memory, and returns the files that can be removed. That is this file, if it was not written whole and is
 // older than mostPart, or if its sequence has ended and has no room, or ended over f.Days days ago: a clock that is ahead by less loses none. Or it
 // is the files of ended sequences whose room this one takes. `key` is the name of the file's folder. Without room for a sequence that has not ended,
-// or if the file cannot be read or the daemon has not written it, the file is left out and stays.
+// or if the file cannot be read or its name is not the digest of its octets, the file is left out and stays. The time of the file is when the
+// sequence was left.
 func (f *folderChains) read(key, name string, now time.Time) (removable []keptFile) {
 	path, thisFile := filepath.Join(f.Folder, key, name), []keptFile{{key, name}}
 	about, err := os.Stat(path)
@@ -417,8 +418,8 @@ func (d *decider) judgeAll(result *record, key guard.ProvenKey, path string, inq
 }
 
 // judgeByKept tries each sequence that is kept for the key of a record, whose request the list alone denies, until one grants the request. If none
-// does, the answer stays `unauthenticated`, and the record is that of the last sequence, which is returned, or stays as it is without one. If a
-// decision failed, or the kept sequences cannot be read, the answer is `failed`. `before` is the record before the first decision. `path` is decoded.
+// does, the answer is `failed` if a decision failed or the kept sequences cannot be read. Otherwise it stays `unauthenticated`, and the record is
+// that of the last sequence, which is returned, or stays as it is without one. `before` is the record before the first decision. `path` is decoded.
 func (d *decider) judgeByKept(result *record, before record, key guard.ProvenKey, path string, now time.Time) (last string) {
 	chains, err := d.chains.currentOf(result.Key, now)
 	if err != nil {

@@ -37,7 +37,7 @@ func (c *config) isPut(request *http.Request) bool {
 	return request.Method == http.MethodPut && (c.Headers.Method != "" || c.isForChains(request))
 }
 
-// isForChains says whether a request is for the path to which certificates are put.
+// isForChains says whether the target of a request is the path to which certificates are put, without a query.
 func (c *config) isForChains(request *http.Request) bool {
 	return c.Chains != nil && request.RequestURI == c.Chains.Path
 }
@@ -72,7 +72,8 @@ func (c *config) inquiryOfPut(request *http.Request) (inquiry inquiry, err error
 	return inquiry, err
 }
 
-// bodyOf reads the body of a request. It fails with errLength if Content-Length is missing, 0 or over mostShownOctets, or if the body is shorter.
+// bodyOf reads the body of a request. It fails with errLength if Content-Length is missing, 0 or over mostShownOctets, or if the body cannot be read
+// whole: it is shorter, or too slow.
 func bodyOf(request *http.Request) ([]byte, error) {
 	if request.ContentLength < 1 || request.ContentLength > mostShownOctets {
 		return nil, errLength
@@ -84,9 +85,9 @@ func bodyOf(request *http.Request) ([]byte, error) {
 	return body, nil
 }
 
-// sequenceInBody returns the S-expression of a body in transport form, whatever form the body has. It fails with errChain if the body is no
-// S-expression, is a sequence without certificates, or is over mostShownOctets in transport form, and with errBusy if too many questions are decided
-// at once. Whether it is a sequence is tested later.
+// sequenceInBody returns the S-expression of a body in transport form, whatever form the body has. It fails with errChain if the library reads no
+// S-expression in the body, also for want of memory, if that is a sequence without certificates, or if it is over mostShownOctets in transport form;
+// and with errBusy if too many questions are decided at once. Whether it is a sequence is tested later.
 func sequenceInBody(body []byte) (string, error) {
 	if err := library.enter(); err != nil {
 		return "", err

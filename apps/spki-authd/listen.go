@@ -21,7 +21,7 @@ const (
 const mostSocketPath = 107
 
 // checkEntrance returns an error if `listen` or a field for it is wrong. Only the web server may be able to ask, and it must know that this daemon
-// answers: by the folder of a Unix socket, or by a certificate for TLS.
+// answers: by the folder of a Unix socket, or by a certificate for TLS. The number of a port is not tested.
 func (c *config) checkEntrance() error {
 	if path := strings.TrimPrefix(c.Listen, unixScheme); path != c.Listen {
 		return c.checkSocket(path)

@@ -99,7 +99,8 @@ func (f *fields) addString(value string) {
 	*f = append(*f, escaped...)
 }
 
-// plain has true only for octets that encoding/json writes as they are. It has false for DEL and all octets beyond ASCII, which this may write so too.
+// plain has true only for octets that encoding/json writes as they are. It has false for DEL and all octets beyond ASCII too, although encoding/json
+// writes most of these as they are.
 var plain = func() (isPlain [256]bool) {
 	for octet := ' '; octet <= '~'; octet++ {
 		isPlain[octet] = !strings.ContainsRune("\"\\<>&", octet)

@@ -3,6 +3,7 @@ package main
 // What the daemon tells the service manager, systemd, and the socket that it may get from it.
 
 import (
+	"errors"
 	"fmt"
 	"io/fs"
 	"net"
@@ -53,13 +54,17 @@ func inheritedSocket() (net.Listener, error) {
 	if count := os.Getenv(envSockets); count != "1" {
 		return nil, fmt.Errorf("the service manager hands over %s sockets, and must hand over one", count)
 	}
+	// (a listener would also be made of a Unix socket that does not listen)
+	if listens, err := syscall.GetsockoptInt(firstFile, syscall.SOL_SOCKET, syscall.SO_ACCEPTCONN); err != nil || listens == 0 {
+		return nil, errors.New("what the service manager hands over is no socket that takes connections")
+	}
 	file := os.NewFile(firstFile, "the socket of the service manager")
 	defer file.Close()
 	return net.FileListener(file)
 }
 
-// checkInherited returns an error if a socket of the service manager is not at the address of the configuration, or, for a Unix socket, if checkGroup
-// or checkMode does for its present group and mode.
+// checkInherited returns an error if a socket of the service manager is not at the address of the configuration, or, for a Unix socket, if it cannot
+// be looked at, or if checkGroup or checkMode does for its present group and mode.
 func (c *config) checkInherited(listener net.Listener) error {
 	address := listener.Addr()
 	inherited := unixScheme + address.String()
@@ -83,7 +88,8 @@ func (c *config) checkInherited(listener net.Listener) error {
 	return c.checkMode(about.Mode().Perm())
 }
 
-// checkGroup returns an error if a socket has another group than `socket_group`. Without that, each group is right. `about` is what Stat says of the socket.
+// checkGroup returns an error if a socket has another group than `socket_group`, or if there is no group of that name. Without `socket_group` each
+// group is right. `about` is what Stat says of the socket.
 func (c *config) checkGroup(about fs.FileInfo) error {
 	if c.SocketGroup == "" {
 		return nil

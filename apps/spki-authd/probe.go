@@ -80,14 +80,15 @@ func probeSite(address string, isStopped bool, out io.Writer) error {
 	return probe.end()
 }
 
-// baseOf reads the address of a folder, and returns it without the `/` at its end. It fails with errBase if the address cannot be parsed, or has another
-// scheme than https or http, no host, a user, a query, even an empty one, a fragment, or an escape such as %2F, which decoding would change.
+// baseOf reads the address of a folder, and returns it without the `/` at its end. It fails with errBase if the address cannot be parsed, or has
+// another scheme than https or http, no host, a user, a query, even an empty one, a fragment that is not empty, or an escape such as %2F, which
+// decoding would change.
 func baseOf(address string) (*url.URL, error) {
 	base, err := url.Parse(address)
 	if err != nil || base.Scheme != "https" && base.Scheme != "http" {
 		return nil, errBase
 	}
-	if base.Host == "" || base.User != nil || base.RawQuery != "" || base.ForceQuery || base.Fragment != "" {
+	if base.Hostname() == "" || base.User != nil || base.RawQuery != "" || base.ForceQuery || base.Fragment != "" {
 		return nil, errBase
 	}
 	base.Path = strings.TrimSuffix(base.Path, "/")

@@ -28,9 +28,9 @@ const (
 
 // A record is one decision: the line of the log, and the answer to the web server. It has no key and no certificate, but their digests. Cached counts
 // the signatures that were known to be valid, and Unverified those that were not verified since they could change nothing. Reason is the fault that
-// the daemon has found, and Reasons are the library's, of a denial that is explained. Kept is `used` where certificates that were left grant the
-// request. If none of them does, Certificates has the last that were tried. Address is noted only where it asks too often, and Target only where
-// there is no Request.
+// the daemon has found, and Reasons is what `explain` notes of a denial. Kept is `used` where a guard has granted the request by certificates that
+// were left. If none of them grants it, Certificates has the last that were tried. Address is noted only where it asks too often, and Target only
+// where there is no Request.
 type record struct {
 	Time         string   `json:"time"`
 	ID           string   `json:"id,omitempty"`

@@ -73,7 +73,8 @@ func (r rule) check() error {
 	return nil
 }
 
-// checkPrefix returns an error unless a prefix of paths begins and ends with `/` and is a path as pathOf returns it.
+// checkPrefix returns an error unless a prefix of paths begins and ends with `/` and pathOf returns it unchanged. So it has no space, although a
+// decoded path may have one.
 func checkPrefix(prefix string) error {
 	if !strings.HasPrefix(prefix, "/") || !strings.HasSuffix(prefix, "/") {
 		return errors.New("a prefix begins and ends with `/`")

@@ -65,7 +65,8 @@ func (h *headers) all() []*string {
 	return []*string{&h.Method, &h.URI, &h.Certificate, &h.Sequence, &h.Secret, &h.ID, &h.Host, &h.Address}
 }
 
-// check returns an error if two headers have one name, if one is called Authorization, or if a name or the form of the certificate is wrong.
+// check returns an error if two headers have one name, if one is called Authorization, if a name has an octet that is not visible, or if `form`, that
+// of the certificate, is none of the three.
 func (h headers) check(form string) error {
 	if _, isForm := forms[form]; !isForm {
 		return fmt.Errorf(`"certificate_form" is %q, and must be %s, %s or %s`, form, escapedPEM, base64DER, xfcc)

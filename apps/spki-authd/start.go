@@ -39,7 +39,8 @@ func listenToSignals() signals {
 }
 
 // start reads the configuration and its files, and runs the daemon until a signal ends it. With -test it only reads and tests the files, and prints
-// what decider.test prints. It fails as readConfig, openLedger, openDecider, decider.test and daemon.listenAndServe do.
+// what decider.test prints. `out` gets that, or the lines of answers other than grants, and `messages` the events. It fails as readConfig,
+// openLedger, openDecider, decider.test and daemon.listenAndServe do.
 func start(words words, out, messages io.Writer) error {
 	signals := listenToSignals()
 	debug.SetGCPercent(gcPercent)

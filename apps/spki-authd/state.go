@@ -1,6 +1,7 @@
 package main
 
-// The state of a daemon, by which an operator sees whether two daemons have the same lists and ended certificates.
+// The state of a daemon, by which an operator sees whether two daemons have read the same lists and ended certificates. A list in a store counts as
+// another one until both daemons have polled the same last change.
 
 import (
 	"errors"
@@ -11,8 +12,9 @@ import (
 
 var errStates = errors.New("the daemons have different lists or ended certificates")
 
-// state returns one line with the numbers and the digests of the entries and of the ended certificates. Two daemons have the same line if they have
-// the same lists and ended certificates, and have polled the same change of each store. checkStates and the operators' scripts compare these lines.
+// state returns one line: the digest of the lists (digestNow), the number of the entries in files, and the count and the digest of endedCertificates.
+// Two daemons have the same line if the files of both have the same octets, the lists have the same hosts, prefixes and order, and the last change
+// that was polled of each store is the same. checkStates and the operators' scripts compare these lines.
 func (d *daemon) state() string {
 	present := d.keeper.present.Load()
 	return fmt.Sprintf("list %s entries %d ended %d %s\n", present.digestNow(), present.entries(), present.ended.count, present.ended.digest)

@@ -33,7 +33,7 @@ type store struct {
 	// Guards what follows.
 	mutex  sync.RWMutex
 	polled polledState
-	// The error of the last poll, or nil.
+	// The error of the last poll, or nil. Before the first poll it is errNever.
 	fault error
 	// The lists of entries that were read, by key.
 	kept *keptLists
@@ -100,8 +100,8 @@ type polledState struct {
 	lag time.Duration
 }
 
-// storeCounts count the questions whose entries were kept, those whose entries the database was asked for, and those whose entries could not be read from
-// it. misses include failures.
+// storeCounts count the questions whose entries were kept, those whose entries the database was asked for, and those of which noteRead has got an
+// error. misses include failures.
 type storeCounts struct {
 	hits, misses, failures uint64
 }
@@ -149,7 +149,9 @@ func (s *store) list(question *guard.Question) (*list, error) {
 	}
 	opened, err := s.read(keyDigest, key)
 	if err == nil {
-		err = s.checkFresh()
+		if err = s.checkFresh(); err != nil && opened.isPassing {
+			opened.guard.Close()
+		}
 	}
 	s.noteRead(err)
 	if err != nil {
@@ -236,8 +238,8 @@ func (r *entryRows) add(number int, text []byte) error {
 	return nil
 }
 
-// openRows returns the list of entries that were read. It fails with errHostile if a row is not exactly one entry or the library refuses the list,
-// with guard.ErrMemory, and with errBusy if too many questions are decided at once.
+// openRows returns the list of entries that were read. It fails with errHostile if a row does not begin as an entry, if there are more or fewer
+// entries than rows, or if the library refuses the list; with guard.ErrMemory; and with errBusy if too many questions are decided at once.
 func (s *store) openRows(rows entryRows) (*list, error) {
 	joined := make([]byte, 0, rows.size)
 	for _, text := range rows.texts {
@@ -282,7 +284,7 @@ func (s *store) keptOf(keyDigest digest) *list {
 	return cached
 }
 
-// noteRead counts a question for which the database was asked. `err` is why the entries could not be read, or nil.
+// noteRead counts a question for which the database was asked. `err` is why the entries could not be read, or may not be used (checkFresh), or nil.
 func (s *store) noteRead(err error) {
 	s.mutex.Lock()
 	defer s.mutex.Unlock()
@@ -316,9 +318,9 @@ func (s *store) checkFresh() error {
 	return err
 }
 
-// age returns how old the state is at `now`: how old its beat was when a poll first read it, by the time of day, and the time since, by the monotonic
-// clock. That clock stops while the machine sleeps, so the time of day counts if it says more. It fails if the beat was over mostAhead in the future when
-// a poll first read it.
+// age returns how old the state is at `now`: how old its beat was when a poll first read it, by the time of day (0 for one in the future), and the
+// time since, by the monotonic clock. That clock stops while the machine sleeps, so the time of day counts if it says more. It fails if the beat was
+// over mostAhead in the future when a poll first read it.
 func (p *polledState) age(now time.Time) (time.Duration, error) {
 	if p.lag < -mostAhead {
 		return 0, fmt.Errorf("%w: its beat is %v ahead of the daemon's clock", errStale, -p.lag)

@@ -44,8 +44,9 @@ func (k *keptLists) get(name digest) *list {
 	return element.Value.(*keptList).list
 }
 
-// add keeps the list of a key, unless it alone is too large, and says whether it does. `name` is the key's digest by SHA-256, `digests` are all its digests
-// from digestsOf, and `octets` is the size of its entries' texts. Lists that were not asked for in a long time are removed to make room.
+// add keeps the list of a key, unless it alone is too large, and says whether it does. One that was kept for the key is removed in either case.
+// `name` is the key's digest by SHA-256, `digests` are all its digests from digestsOf, and `octets` is the size of its entries' texts. Lists that
+// were not asked for in a long time are removed to make room.
 func (k *keptLists) add(name digest, digests [][]byte, list *list, octets int) bool {
 	if before, isKept := k.byName[name]; isKept {
 		k.remove(before)
@@ -66,7 +67,7 @@ func (k *keptLists) add(name digest, digests [][]byte, list *list, octets int) b
 	return true
 }
 
-// drop removes the list of a key, if one is kept. `digest` is any of the key's digests from digestsOf: that which a changed entry has.
+// drop removes the list of a key, if one is kept. `digest` is any of the key's digests from digestsOf, such as that which a changed entry has.
 func (k *keptLists) drop(digest []byte) {
 	if element, isKept := k.byDigest[string(digest)]; isKept {
 		k.remove(element)

@@ -93,8 +93,8 @@ func (s *store) statusLine() (string, error) {
 		s.polled.beat, age, len(s.ended), s.kept.count(), s.kept.size, s.count.misses, s.count.failures), err
 }
 
-// stamp returns a text that differs between any two states of a list: the digest of a file, or `change-NUMBER-TIME` of the last change of a store, the time
-// in microseconds since 1970.
+// stamp returns a text by which states of a list are compared: the digest of a file, or `change-NUMBER-TIME` of the last change of a store that was
+// polled, the time in microseconds since 1970. NUMBER and TIME are 0 before the first poll, and while the store has no change.
 func (l *list) stamp() string {
 	if l.store == nil {
 		return l.digest
@@ -125,7 +125,8 @@ var storeFamilies = []struct {
 	{"store_rows_failed_total", "counter", "Decisions that failed since their rows could not be read.", func(s *store) any { return s.countsNow().failures }},
 }
 
-// writeStores writes the metrics of all stores. The label `list` is the number of the list in the configuration, from 1. Without a store it writes nothing.
+// writeStores writes the metrics of all lists in stores. The label `list` is the number of the list in the configuration, from 1. Without a store it
+// writes nothing.
 func (e *exposition) writeStores(present *access) {
 	for _, family := range storeFamilies {
 		isBegun := false

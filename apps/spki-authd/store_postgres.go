@@ -170,7 +170,7 @@ func (p *pool) take() (*link, error) {
 
 // ask runs the statement with a number such as askRows and these values of its parameters, and calls a function with each of its rows. The row's values are
 // valid during that call alone. It fails as take does. It also fails, closes the connection and renews the others, if the function fails, or if the
-// server refuses the statement or does not answer within p.patience of the call. After errMany it renews none.
+// server refuses the statement or does not answer within p.patience of the call (for a poll: of each read and write). After errMany it renews none.
 func (p *pool) ask(number int, use func(row []driver.Value) error, values ...driver.Value) error {
 	link, err := p.take()
 	if err != nil {
@@ -272,9 +272,9 @@ func requireState(hasState bool, err error) error {
 }
 
 // changesSince returns the changes after the one with a number. `times` has the times of these and of that one, if it is not gone; the token of the
-// state, which tells one history from another, is the time of the last change that is read; `isCut` says that there are more. Behind the state a row
-// has the number, the time, the kind and the digest of a change. The statement also reads the change with that number, and one more than a poll
-// takes. It fails as pool.ask does, or with errVersion.
+// state, which tells one history from another, is the time of the last change that is read; `isCut` says that there are over mostChanges. Behind the
+// state a row has the number, the time, the kind and the digest of a change. The statement also reads the change with that number, and one more than
+// a poll takes. It fails as pool.ask does, or with errVersion.
 func (p *pool) changesSince(number int64) (result pollResult, err error) {
 	hasState, count := false, 0
 	result.times = map[int64]int64{}
@@ -300,7 +300,8 @@ func (p *pool) changesSince(number int64) (result pollResult, err error) {
 	return result, requireState(hasState, err)
 }
 
-// note adds a change. If `kind` is `end`, `octets` is the digest of an ended certificate. Otherwise it is the digest of a key whose entries have changed.
+// note adds a change. If `kind` is `end` and there are 32 octets, they are the digest of an ended certificate. Otherwise they are the digest of a key
+// whose entries have changed.
 func (r *pollResult) note(kind driver.Value, octets []byte) {
 	if text, isText := kind.(string); isText && text == "end" && len(octets) == len(digest{}) {
 		r.ended = append(r.ended, *(*digest)(octets))
