@@ -68,7 +68,8 @@ class Service:
 
         Raises `spki.Refused` if a part of the question cannot be read, or the entries found have over 1 MiB together, and what psycopg raises if
         the database does not answer. `verify(signature)`, which returns whether a signature is valid, is called once for each signature, in order, up
-        to the first that is not valid or whose certificate has ended; and not at all if the entries found grant nothing, whatever is valid.
+        to the first that is not valid, and not from the first on whose certificate has ended; and not at all if the entries found grant nothing,
+        whatever is valid.
         """
         def counts(signature):
             """Whether a signature is valid and its certificate has not ended. This is read after the entries, and what has ended stays so: thus a yes
