@@ -76,9 +76,9 @@ class _Handle(c_void_p, _NotCopied):
         self.process = os.getpid()
 
     def free(self, close: Callable[[c_void_p], None], current_process: Callable[[], int] = os.getpid) -> None:
-        """Frees the memory by `close`, in the process that has opened it. A child that was forked has a copy of the
-        memory, which ends with it. `current_process` is a parameter, as `close` of `__del__` is, for its default: when
-        the interpreter ends, the names of modules may be gone, and defaults are not."""
+        """Frees the memory, if the address is not null, by `close`, in the process that has opened it. A child that was
+        forked has a copy of the memory, which ends with it. `current_process` is a parameter, as `close` of `__del__` is,
+        for its default: when the interpreter ends, the names of modules may be gone, and defaults are not."""
         if self.process == current_process():
             close(self)
 
@@ -406,7 +406,7 @@ def _take_call_memory() -> _CallMemory:
 
 def _take_answer_memory() -> _AnswerMemory:
     """Memory for an answer within the usual limit, which no other call uses. The caller appends it to `_spare_answers`
-    afterwards."""
+    afterwards. Raises `OSError` as `_AnswerMemory` does."""
     try:
         return _spare_answers.pop()
     except IndexError:

@@ -30,7 +30,8 @@ class Signed(NamedTuple):
 
 
 def usual_verify() -> Callable[[Signed], bool]:
-    """The function that verifies signatures if a `Verifier` is given none. It is imported here, since it needs `cryptography`."""
+    """The function that verifies signatures if a `Verifier` is given none. It is imported here, since it needs `cryptography`: `ImportError`
+    without it."""
     import spki_verify
     return spki_verify.verify
 
