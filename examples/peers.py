@@ -54,7 +54,8 @@ KNOWN = {
 
 
 def written_by_spki(form, text):
-    """What `spki` writes for a text in a form of FORMS. None if it refuses the text. Ends the script if it does neither."""
+    """What `spki` writes for a text in a form of FORMS. None if it refuses the text. Ends the script if it does neither. Raises
+    `subprocess.TimeoutExpired` if it does not end within SECONDS."""
     status, output = run(PROGRAM, form, text, SECONDS)
     if status not in (0, 2):
         sys.exit(f"{PROGRAM} {form} ended with status {status}")
@@ -110,8 +111,8 @@ def compare(name, text):
 
 
 def main():
-    """Compares the programs on each file of FOLDER that is not hidden, and prints the lines. Ends with status 1 if one is not as wanted, or if TEXTS
-    does not show each difference of KNOWN, and with 2 if FOLDER or `sexp-conv` is missing."""
+    """Compares the programs on each file of FOLDER that is not hidden, and prints the lines. Ends with status 1 if one is not as wanted, or if FOLDER
+    is TEXTS and does not show each difference of KNOWN, and with 2 if FOLDER or `sexp-conv` is missing."""
     for name, is_there in ((PEER, shutil.which(PEER) is not None), (FOLDER, os.path.isdir(FOLDER))):
         if not is_there:
             print(f"{name} is not there", file=sys.stderr)

@@ -29,7 +29,8 @@ class NotDrawn(Exception):
 
 
 def answer(program, command, text):
-    """The octets that the program, a path, writes for a command and a text. Raises `NotDrawn` if it refuses the text, fails or writes nothing."""
+    """The octets that the program, a path, writes for a command and a text. Raises `NotDrawn` if it refuses the text, fails or writes nothing,
+    and `subprocess.TimeoutExpired` if it does not end."""
     status, lines = run(program, command, text)
     # (the status is 0 for a yes or another answer, and 1 for a no)
     if status not in (0, 1) or not lines:
@@ -74,8 +75,8 @@ def dot_of(drawing):
 
 
 def main():
-    """Prints the drawing of the case that the command line names. Returns the exit status: 0, or 2 if it cannot be drawn. If it names none, the
-    program ends with the help and status 1."""
+    """Prints the drawing of the case that the command line names. Returns the exit status: 0, or 2 if it cannot be drawn. Without a name, and for
+    one that begins with `-`, the program ends with the help and status 1."""
     if len(sys.argv) < 2 or sys.argv[1].startswith("-"):
         sys.exit(__doc__)
     try:

@@ -64,7 +64,7 @@ RESPONSE = """"@status": 200
 
 
 def unescaped(text: str) -> str:
-    r"""A text of a row without its escapes, such as `\n` and `\xff`."""
+    r"""A text of a row with the character that each escape stands for: `\t`, `\n`, `\r`, `\\` or one such as `\xff`."""
     return ESCAPE.sub(lambda match: chr(int(match[1], 16)) if match[1] else {"t": "\t", "n": "\n", "r": "\r", "\\": "\\"}[match[2]], text)
 
 
@@ -226,8 +226,8 @@ class Requests(unittest.TestCase):
 
     def test_start_by_a_clock_that_was_behind(self) -> None:
         """A service starts while its clock is ten minutes behind, and the clock is put right ten seconds later. What was created before the start by
-        the right clock is refused, since a service before this one may have answered it. A row has how far the clock was put forward, and how long
-        before that a request is signed."""
+        the right clock is refused, since a service before this one may have answered it. A row has how many seconds the clock is put forward, 0 if it
+        was right, and how many seconds old the request is then."""
         signer, monotonic = curve_signer(), 5000.0
         with mock.patch("time.monotonic", lambda: monotonic):
             verifier = spki_http.Verifier("example.com")

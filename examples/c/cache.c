@@ -7,7 +7,7 @@
 
 enum { MOST = 65536 }; /* the most octets of a line, of the client's key, of its certificates, and of what is printed of a file */
 
-/* The first octets of a file, at most `most`, which are read into `room`. An empty text if it cannot be read. */
+/* The first octets of a file, up to `most` or to a fault of reading, which are read into `room`. An empty text if it cannot be opened. */
 static struct spki_text octets_of(const char *path, void *room, size_t most)
 {
     FILE *file = fopen(path, "rb");

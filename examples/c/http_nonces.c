@@ -114,9 +114,9 @@ static void drop_old_set(struct http_nonces *nonces, long long now, long long se
     nonces->count = 0;
 }
 
-/* Keeps a nonce of a key for at least so many seconds from `now`, in seconds since 1970. `store` is a struct http_nonces. Returns null, or the name
- * of the refusal: "nonce-seen" if it is kept already, or "store-full": nothing is forgotten early. If the clock has gone back to over a second before
- * the young set began, each nonce is refused as "before-start", since it may be forgotten. */
+/* Keeps a nonce of a key for at least `seconds`, the same in each call, from `now`, in seconds since 1970. `store` is a struct http_nonces. Returns
+ * null, or the name of the refusal: "nonce-seen" if it is kept already, or "store-full": nothing is forgotten early. If the clock has gone back to
+ * over a second before the young set began, each nonce is refused as "before-start", since it may be forgotten. */
 const char *http_nonces_take(void *store, struct spki_text key, struct spki_text nonce, long long now, long long seconds)
 {
     struct http_nonces *nonces = store;

@@ -219,7 +219,7 @@ static bool is_component(struct spki_text name)
     return name.length > 0 && !is_text(name, "signature") && !is_text(name, "signature-input");
 }
 
-/* Reads the list of the names of components, in parentheses. Returns null, or the name of the refusal. */
+/* Reads the list of the names of components, in parentheses, into `input`, which has none yet. Returns null, or the name of the refusal. */
 static const char *read_components(struct cursor *in, struct input *input)
 {
     if (!try_skip(in, "("))
@@ -385,7 +385,8 @@ static void write_text(struct writer *out, struct spki_text text)
     out->length += text.length;
 }
 
-/* Writes the value of a component by its name. Returns null, or the name of the refusal of a field that cannot be read. */
+/* Writes the value of a component by its name. `authority` is the service's name, as authority_of returns it. The scheme is https: unlike in Go and
+ * Python a service has no setting for http. Returns null, or the name of the refusal of a field that cannot be read. */
 static const char *write_value(struct writer *out, const struct http_request *request, struct spki_text authority, struct spki_text name)
 {
     struct spki_text target = request->target, value;
@@ -409,7 +410,7 @@ static const char *write_value(struct writer *out, const struct http_request *re
     return why;
 }
 
-/* Writes the signature base of RFC 9421: the text that is signed. Returns null, or the name of the refusal. */
+/* Writes the signature base of RFC 9421: the text that is signed. `authority` is as in write_value. Returns null, or the name of the refusal. */
 static const char *write_base(struct writer *out, const struct http_request *request, struct spki_text authority, const struct input *input)
 {
     for (size_t i = 0; i < input->count; i++) {
@@ -623,7 +624,7 @@ static struct spki_text cut(char **rest, const char *mark)
 }
 
 /* Parses the head of a request of HTTP/1.1, a C string that ends with its empty line, and cuts it into the texts of `request` and `fields`. False if
- * it is no head of at most `most` fields, each in one line, or has not exactly one `Host`. */
+ * it is no head of at most `most` fields, each in one line, or has not exactly one `Host`, of printable ASCII and tabs. */
 bool http_request_read(char *head, struct http_field *fields, size_t most, struct http_request *request)
 {
     *request = (struct http_request){.method = cut(&head, " "), .fields = fields};

@@ -49,7 +49,7 @@ struct http_proof {
 
 /* Parses the head of a request of HTTP/1.1, a C string that ends with its empty line. The texts of `request` and `fields` are parts of `head`. In it
  * the method, the target and each name and value are ended by an octet 00. The authority is that of `Host`. False if it is no head of at most `most`
- * fields, each in one line, or has not exactly one `Host`. */
+ * fields, each in one line, or has not exactly one `Host`, of printable ASCII and tabs. */
 bool http_request_read(char *head, struct http_field *fields, size_t most, struct http_request *request);
 
 /* Null if a request proves a key at a time, in seconds since 1970. Otherwise the name of the refusal in docs/SIGNATURES.md, or "memory". With null

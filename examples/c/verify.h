@@ -59,7 +59,7 @@ struct verify_parts {
     struct spki_text key[2], value[2];
 };
 
-/* Reads a string, LENGTH:OCTETS, and returns where it ends. Returns null if there is no whole one before `end`. */
+/* Reads a string, LENGTH:OCTETS, and returns where it ends. Returns null if there is no whole one before `end`, or LENGTH has a 0 before other digits. */
 static inline const unsigned char *verify_string(const unsigned char *at, const unsigned char *end, struct spki_text *string)
 {
     const unsigned char *first = at;

@@ -56,7 +56,7 @@ def guard_of(texts, policy=spki.Policy.STRICT, limits=LIMITS):
 class Service:
     """Answers questions by the entries of `store`: an object whose method `entries_for` returns the number and the text of each entry that it finds
     by the digests of a key, as `digests_of` returns them. Its method `has_ended` says whether a certificate has ended early, by the SHA-256 digest of
-    its canonical form. `spki_store_tool.tables.Store` is one."""
+    its canonical form. `spki_store_tool.tables.Store` is one. `policy` and `limits` are those of each guard."""
 
     def __init__(self, store, policy=spki.Policy.STRICT, limits=LIMITS):
         self.store, self.policy, self.limits = store, policy, limits
@@ -67,8 +67,8 @@ class Service:
         """The number, in the store, of the first entry that grants `question`, a `spki.Question`. `None` if no entry does.
 
         Raises `spki.Refused` if a part of the question cannot be read, or the entries found have over 1 MiB together, and what psycopg raises if
-        the database does not answer. `verify(signature)`, which returns whether a signature is valid, is called once for each signature, in order, up
-        to the first that is not valid or whose certificate has ended; and not at all if the entries found grant nothing, whatever is valid.
+        the database does not answer. `verify(signature)`, which returns whether a signature is valid, is called once for each signature, in order,
+        until one is not valid or the certificate of the next has ended; and not at all if the entries found grant nothing, whatever is valid.
         """
         def counts(signature):
             """Whether a signature is valid and its certificate has not ended. This is read after the entries, and what has ended stays so: thus a yes

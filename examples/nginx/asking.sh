@@ -15,8 +15,8 @@ shows() {
     echo "Authorization: SPKI $(spki-cert show --braces "$1")"
 }
 
-# reload: has spki-authd read its list and its ended certificates again, waits for the line that says so, and prints the event that it names. Fails if
-# the daemon does not run. It waits without a limit. On a real server it is `systemctl reload spki-authd`, and the line is in its journal.
+# reload: has spki-authd read its list and its ended certificates again, waits for the next line of its events, which says so, and prints its event.
+# Fails if the daemon does not run. It waits without a limit. On a real server it is `systemctl reload spki-authd`, and the line is in its journal.
 reload() {
     lines=$(wc -l < log/authd-events.log)
     kill -HUP "$(cat run/authd.pid)" || return 1

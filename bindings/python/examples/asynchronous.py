@@ -1,5 +1,5 @@
-"""Decides a request as decide.py does, in a service with asyncio: the signatures are verified in threads, all at the same time, and other requests
-go on meanwhile.
+"""Decides a request as decide.py does, in a service with asyncio: the signatures are verified in its threads, several at the same time, and other
+requests go on meanwhile.
 
 Usage: asynchronous.py ACL SEQUENCE KEY WORD ..
 """
@@ -13,8 +13,8 @@ import spki_verify
 
 
 async def is_granted(guard: spki.Guard, sequence: bytes, key: spki.ProvenKey, words: list[bytes], now: datetime) -> bool:
-    """Whether a request is granted. All signatures are verified at the same time, or none if they cannot make it a yes.
-    The valid ones are marked, and the marks decide. Raises `spki.Refused` if the sequence, the key or the request cannot
+    """Whether a request is granted. All signatures are verified, in threads, or none if they cannot make it a yes. The
+    valid ones are marked, and the marks decide. Raises `spki.Refused` if the sequence, the key or the request cannot
     be read, which is a no too."""
     question = spki.Question(sequence, key, words=words, moment=now)
     with guard.ask(question) as asked:

@@ -76,9 +76,9 @@ class _Handle(c_void_p, _NotCopied):
         self.process = os.getpid()
 
     def free(self, close: Callable[[c_void_p], None], current_process: Callable[[], int] = os.getpid) -> None:
-        """Frees the memory by `close`, in the process that has opened it. A child that was forked has a copy of the
-        memory, which ends with it. `current_process` is a parameter, as `close` of `__del__` is, for its default: when
-        the interpreter ends, the names of modules may be gone, and defaults are not."""
+        """Frees the memory, if the address is not null, by `close`, in the process that has opened it. A child that was
+        forked has a copy of the memory, which ends with it. `current_process` is a parameter, as `close` of `__del__` is,
+        for its default: when the interpreter ends, the names of modules may be gone, and defaults are not."""
         if self.process == current_process():
             close(self)
 
@@ -129,8 +129,8 @@ class _Closable(_NotCopied):
 class Asked(_Closable, NoDecision):
     """A question that was read, which is decided by the marks that it carries. It stays open when its guard is closed.
 
-    A signature that is not marked is not valid, and a mark cannot be taken back. Several threads may use a question: a
-    mark and any other call wait for each other. After `close` its signatures, marks and answers raise `ValueError`. They
+    A signature that is not marked is not valid, and a mark cannot be taken back. Several threads may use a question: calls
+    that mark, that read a signature and that answer wait for each other. After `close` these raise `ValueError`. They
     raise `Refused` if an allocation failed.
     """
 
@@ -153,7 +153,8 @@ class Asked(_Closable, NoDecision):
         yield from self._each_signature(self._open_handle())
 
     def _each_signature(self, handle: c_void_p) -> Iterator[Signature]:
-        """Yields the signature at each place, in order. Equal keys are one object."""
+        """Yields the signature at each place, in order. Equal keys are one object. `handle` is the open one, which is kept
+        until the end: to `close` the question meanwhile frees nothing."""
         keys = dict[bytes, bytes]()
         for place in range(self._count):
             with self._lock:
@@ -405,7 +406,7 @@ def _take_call_memory() -> _CallMemory:
 
 def _take_answer_memory() -> _AnswerMemory:
     """Memory for an answer within the usual limit, which no other call uses. The caller appends it to `_spare_answers`
-    afterwards."""
+    afterwards. Raises `OSError` as `_AnswerMemory` does."""
     try:
         return _spare_answers.pop()
     except IndexError:

@@ -120,8 +120,8 @@ class Signature:
 
     @property
     def octets(self) -> bytes | None:
-        """The octets of a value that is one string: `sig` of `3:sig`. `None` for a list, such as `(7:sig-val..)`, and for a string with a
-        display hint."""
+        """The octets of a value that is one string: `sig` of `3:sig`, whose length is not tested. `None` for a list, such as `(7:sig-val..)`, and
+        for a string with a display hint."""
         length, colon, octets = self.value.partition(b":")
         return octets if colon and length.isdigit() else None
 

@@ -233,8 +233,8 @@ def kind_of(key: bytes) -> tuple[str, int]:
 
 
 def value_of(algorithm: str, octets: bytes) -> bytes:
-    """The canonical value, `(7:sig-val..)`, of the octets of a signature. With RSA they are one string in it, and
-    otherwise two, of equal length."""
+    """The canonical value, `(7:sig-val..)`, of the octets of a signature by an algorithm of FORMS. With RSA they are one
+    string in it, and otherwise two halves: callers have tested how many octets there are."""
     half = len(octets) // 2
     strings = [octets] if algorithm.startswith("rsa") else [octets[:half], octets[half:]]
     _, template, _ = FORMS[algorithm]
@@ -246,9 +246,9 @@ def value_of(algorithm: str, octets: bytes) -> bytes:
 def octets_of(value: bytes, length: int = 0) -> bytes:
     """The octets of a signature, as RFC 9421 sends them, from its canonical value: the strings of the value, joined.
     `length` is how many octets a signature by the key has. Signers write more or fewer octets 00 in front of a number:
-    these are added or removed, so that each string has an equal share of the length. With a length of 0 the strings stay
-    as they are, and the caller ensures that the two of ECDSA are equally long. Those of Ed25519 always stay as they are,
-    since they are no numbers.
+    these are added or removed, so that each string has an equal share of the length. A number too long for that stays so.
+    With a length of 0 the strings stay as they are, and the caller ensures that the two of ECDSA are equally long. Those
+    of Ed25519 always stay as they are, since they are no numbers.
     Raises `ValueError` for a text that is no value of a signature."""
     for algorithm, (_, template, _) in FORMS.items():
         if strings := strings_of(value, template):

@@ -21,8 +21,8 @@ class Message:
     """A request: its method, the name that the client asks, its target as in the first line of HTTP/1.1, and its fields
     in their order.
 
-    `body` is None if it is not known: then it is not compared. `has_body` says that there is a body, for servers that
-    do not pass on Content-Length or Transfer-Encoding.
+    `fields` may be an iterator for `Verifier.check` alone: all else reads them repeatedly. `body` is None if it is not known: then it is not
+    compared. `has_body` says that there is a body, for servers that do not pass on Content-Length or Transfer-Encoding.
     """
 
     method: str
@@ -50,7 +50,7 @@ def authority_of(scheme: str, authority: str) -> str:
 
 def base_of(message: Message, scheme: str, components: list[str], parameters: str) -> bytes:
     """The signature base: the text that is signed. `components` are names, and `parameters` is the rest of `Signature-Input` after `spki=`. Raises
-    `Refused` if a component is a field that is absent, is repeated, or has an octet that is neither printable ASCII nor a tab."""
+    what `value_of` raises, and `ValueError` if the authority is not ASCII."""
     lines = [f'"{name}": {value_of(message, scheme, name)}' for name in components]
     return "\n".join([*lines, f'"@signature-params": {parameters}']).encode("ascii")
 

@@ -30,7 +30,8 @@ class Signed(NamedTuple):
 
 
 def usual_verify() -> Callable[[Signed], bool]:
-    """The function that verifies signatures if a `Verifier` is given none. It is imported here, since it needs `cryptography`."""
+    """The function that verifies signatures if a `Verifier` is given none. It is imported here, since it needs `cryptography`: `ImportError`
+    without it."""
     import spki_verify
     return spki_verify.verify
 
@@ -46,7 +47,8 @@ class Nonces(Protocol):
 class Memory:
     """Keeps nonces in two sets of at most `most` each, as digests of key and nonce. New ones go into the young set.
     Once the young set is as old as the time for which a nonce is kept, the next `take` makes it the old set, and drops
-    the one before. If it is twice as old, both are dropped. `young_since` is when the young set was begun, in seconds since 1970."""
+    the one before. If it is twice as old, both are dropped. `young_since` is when the young set was begun, in seconds
+    since 1970: 0 before the first nonce."""
 
     def __init__(self, most: int = USUAL_NONCES) -> None:
         """`most` is how many nonces each of the two sets may have, the old and the young one."""
@@ -55,9 +57,9 @@ class Memory:
         self.young: set[bytes] = set()
 
     def take(self, key: bytes, nonce: str, now: int, seconds: int) -> None:
-        """Keeps a nonce of a key for at least `seconds` from `now`, which is in seconds since 1970. Raises `Refused` if it
-        was used before, or if the young set is full: nothing is forgotten early. If the clock has gone back to over a second
-        before the young set began, each nonce is refused as `before-start`, since it may be forgotten."""
+        """Keeps a nonce of a key for at least `seconds`, the same in each call, from `now`, which is in seconds since 1970.
+        Raises `Refused` if it was used before, or if the young set is full: nothing is forgotten early. If the clock has gone
+        back to over a second before the young set began, each nonce is refused as `before-start`, since it may be forgotten."""
         # (the octet 0 separates key and nonce: a nonce has none. 16 octets of the digest are enough)
         digest = hashlib.sha256(key + b"\0" + nonce.encode()).digest()[:16]
         with self.lock:

@@ -77,13 +77,13 @@ class Signed(Protocol):
 
 
 def verify(signature: Signed) -> bool:
-    """Whether a signature is valid. It is not if its key or its value is in another form than docs/FORMATS.md has."""
+    """Whether a signature is valid. It is not if its key or its value is in another form than docs/FORMATS.md has, or its message is empty."""
     return verify_texts(key=signature.key, message=signature.message, value=signature.value)
 
 
 def verify_texts(*, key: bytes, message: bytes, value: bytes) -> bool:
     """Whether `value` is a valid signature of `message` by `key`. `key` and `value` are canonical texts, and `message` is
-    any octets. False if `key` or `value` is in another form, and for an empty message."""
+    any octets. False if `key` or `value` is in another form, and for an empty message, which docs/FORMATS.md excludes."""
     public = public_of(key)
     try:
         return public is not None and message != b"" and _is_valid(public, message, value)

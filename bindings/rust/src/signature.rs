@@ -49,7 +49,8 @@ impl<'a> Signature<'a> {
             .map(|(_, scheme)| *scheme)
     }
 
-    /// The octets of a value that is one string. `None` for a list, and for a string with a display hint.
+    /// The octets of a value in canonical form that is one string. `None` for a list, and for a string with a display hint. Whether the value is in
+    /// canonical form is not tested.
     #[must_use]
     pub fn octets(&self) -> Option<&'a [u8]> {
         let colon = self.value.iter().position(|octet| *octet == b':')?;

@@ -189,7 +189,7 @@ extern "C" {
         buffer_length: usize,
         needed: *mut usize,
     ) -> Status;
-    /// Frees a guard.
+    /// Closes a guard. Its memory is freed once the questions that were opened with it are closed too.
     pub fn spki_guard_close(guard: *mut Guard);
     /// The number of entries of a guard's list; 0 if it is null.
     pub fn spki_guard_entries(guard: *const Guard) -> usize;
@@ -216,7 +216,8 @@ extern "C" {
     pub fn spki_asked_granted(asked: *const Asked) -> bool;
     /// Whether the request would be granted if all signatures were valid.
     pub fn spki_asked_possible(asked: *const Asked) -> bool;
-    /// Decides whether the request is granted, if exactly the marked signatures are valid. The answer is the line `yes entry N` or `no`.
+    /// Decides whether the request is granted, if exactly the marked signatures are valid. The answer is the line `yes entry N`, `no` or
+    /// `refused Memory`.
     pub fn spki_asked_decide(
         asked: *const Asked,
         buffer: *mut c_void,

@@ -102,7 +102,8 @@ impl<'a> Message<'a> {
         Ok(text)
     }
 
-    /// The value of a component by its name, such as `@path`. Fails if it is a field that `field` refuses.
+    /// The value of a component by its name, such as `@path`. `authority` is as `authority_of` returns it. The scheme is https: unlike in Go and
+    /// Python a service has no setting for http. Fails if the component is a field that `field` refuses.
     fn component(&self, authority: &str, name: &str) -> Result<Vec<u8>, Unproved> {
         let (path, query) = match self.target.split_once('?') {
             Some((path, query)) => (path, Some(query)),

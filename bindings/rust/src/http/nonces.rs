@@ -35,8 +35,8 @@ struct Sets {
 }
 
 impl Nonces {
-    /// Room for `most` nonces in each of the two sets. The young set has the nonces of the time for which one is kept, at most, and if it is full, a
-    /// further one is refused. So `most` bounds how many signed requests are accepted in that time.
+    /// Room for `most` nonces in each of the two sets. If the young set is full, a further nonce is refused, and its request with it. So
+    /// `most` should be no less than the signed requests of the time for which a nonce is kept.
     #[must_use]
     pub fn new(most: usize) -> Nonces {
         Nonces {
@@ -48,8 +48,9 @@ impl Nonces {
 }
 
 impl TakeNonce for Nonces {
-    /// Fails with `NonceSeen` for a nonce whose hash is kept, and with `StoreFull` if the young set is full: nothing is forgotten early. If the clock
-    /// has gone back to over a second before the young set began, each nonce is refused as `BeforeStart`, since it may be forgotten.
+    /// `seconds` must be the same in each call. Fails with `NonceSeen` for a nonce whose hash is kept, and with `StoreFull` if the young set is full:
+    /// nothing is forgotten early. If the clock has gone back to over a second before the young set began, each nonce is refused as `BeforeStart`,
+    /// since it may be forgotten.
     fn take(&self, key: &[u8], nonce: &str, now: u64, seconds: u64) -> Result<(), Unproved> {
         let hash = self.hasher.hash_one((key, nonce));
         let mut sets = self.sets.lock().unwrap_or_else(PoisonError::into_inner);
