@@ -258,8 +258,8 @@ class Shape:
 
 
 def largest_count(octets_of, octets):
-    """The largest count for which `octets_of(count)` is at most `octets`, if it grows by the same for each; 1 if it does not grow. The growth is that
-    from the count 2 to the count 12. 16 octets are left free, for lengths that have more digits there."""
+    """The largest count for which `octets_of(count)` is at most `octets` - 16, if it grows by the same for each; 1 if none is so small, or it does
+    not grow. The growth is that from the count 2 to the count 12. The 16 octets are for lengths that have more digits behind it."""
     few, many = octets_of(2), octets_of(12)
     return max(1, 2 + (octets - 16 - few) * 10 // (many - few)) if many > few else 1
 

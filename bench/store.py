@@ -115,7 +115,7 @@ def resident(process):
 
 
 def processes_of(parent):
-    """The numbers of a process and of those that it has started, by its number."""
+    """The numbers of a process and of its children, by its number."""
     words = ["ps", "-o", "pid=", "--ppid", str(parent)]
     return [parent, *map(int, subprocess.run(words, stdout=subprocess.PIPE, text=True, check=False).stdout.split())]
 
@@ -238,8 +238,8 @@ def fill(store, count, folder):
 
 
 def adds_a_second(store):
-    """How many entries a second can be added one after the other."""
-    # (a key that begins with `a` has no entry yet)
+    """How many entries a second can be added one after the other. They stay in the store."""
+    # (they are equal, for a key that begins with `a`, which had no entry)
     begun, text = time.monotonic(), next(entries(1)).replace(b"k0", b"a0")
     for _ in range(500):
         store.add(text)

@@ -58,7 +58,7 @@ def applied(path: str, folder: str) -> tuple[dict[str, str], str]:
 
 def check_of(crate: Any, texts: dict[str, str], only: list[str], over: str) -> str:
     """The output of a check of the functions `only` (paths as of `bodies.path_of`) of a crate with `texts` in place of its own. Empty if a text could
-    not be read, or the status is neither 0 (all proved) nor 1. Takes proofs from the folder `over`, empty before the first, and keeps its own there."""
+    not be read, or the status is neither 0 (all proved) nor 1. Takes proofs from the folder `over`, empty at first, and keeps its own there."""
     ran = rt_module().checked(crate, texts, [*ONE_JOB, *(f"--only={path}" for path in only)], over)
     is_read = not any(rt_module().unread(line, texts) for line in ran.stdout.split("\n"))
     return ran.stdout if is_read and ran.returncode in (0, 1) else ""
