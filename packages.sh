@@ -131,8 +131,8 @@ Depends: $shared (= $version), libc6-dev" "decide requests by access lists and c
  that is linked with the static library needs no other package where it runs."
 }
 
-# build_daemon LIBRARY PROGRAM: builds the daemon as PROGRAM over a static library. No path of this machine gets into it. (The hash in the flags is
-# there so that Go builds anew for another library.)
+# build_daemon LIBRARY PROGRAM: builds the daemon as PROGRAM over a static library, both absolute paths. No path of this machine gets into it. (The
+# hash in the flags is there so that Go builds anew for another library.)
 build_daemon() {
     local flags
     flags="-g -O2 -DSPKI_OF_LIBRARY_$(sha256sum < "$1" | cut -c 1-64)"

@@ -127,9 +127,9 @@ def heartbeat(address, *before):
 
 
 def start_daemon(program, server, folder, number, **more):
-    """Starts a daemon with the store of a server, and waits, however long, for the first line that it writes, by which it listens. Returns its
-    process and the path of its socket. `number` distinguishes its files in `folder`, and `more` are further settings of its store. Ends the script if
-    the daemon ends before that line."""
+    """Starts a daemon with the store of a server, and waits, however long, for the first line that it writes: it listens then, unless the line, which
+    is not looked at, says why it ends. Returns its process and the path of its socket. `number` distinguishes its files in `folder`, and `more` are
+    further settings of its store. Ends the script if the daemon ends without a line."""
     rules = [{"prefix": "/", "methods": {"GET": "read"}, "request": ["files", "{method}", "{path}"]}]
     path, config = os.path.join(folder, f"daemon-{number}"), os.path.join(folder, f"config-{number}")
     with open(config, "w", encoding="utf-8") as file:

@@ -83,7 +83,7 @@ def digests(octets: bytes, *names: str) -> list[Row]:
 
 
 def files_in(package: str) -> Iterator[tuple[str, bytes]]:
-    """Yields the paths and the octets of the files in the Debian package at a path."""
+    """Yields the paths and the octets of the files, but not the links, in the Debian package at a path."""
     tar = subprocess.run(["dpkg-deb", "--fsys-tarfile", package], stdout=subprocess.PIPE, check=True).stdout
     with tarfile.open(fileobj=io.BytesIO(tar)) as archive:
         for member in archive:
