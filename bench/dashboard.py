@@ -96,7 +96,7 @@ def panels(samples):
 
 
 def elements_of(place, title, lines):
-    """Yields the elements of a panel in SVG. Its place is 0 to 3, by rows of two. `lines` are those of `panels`."""
+    """Yields the elements of a panel in SVG. Its place is 0 to 3, by rows of two. `lines` are those of `panels`, for two samples or more."""
     left, top = LEFT + place % 2 * (WIDTH + 80), TOP_OF_PANEL + place // 2 * ROW
     most = max(max(values) for _, values in lines) or 1
     # (with four digits that count)

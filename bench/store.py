@@ -163,7 +163,7 @@ def ask_by_people(server, library, count, program, number, rate, share=0.0):
 
 @contextlib.contextmanager
 def removing_added_entries(server):
-    """A context that removes the entries that are added within it, unless it ends by an exception, which ends the bench."""
+    """A context that removes the entries that are added within it, unless it ends by an exception, which ends the bench. Some must be there."""
     # (imported here, once `main` has set SPKI_LIBRARY)
     from spki_store_tool.tables import Store
     with contextlib.closing(Store(server.address, SCHEMA)) as store:
