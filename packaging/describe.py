@@ -101,7 +101,7 @@ def fields_of(package: str) -> dict[str, str]:
 
 
 def description_of(package: str, maintainer: str) -> tuple[Row, list[Row], set[tuple[str, str]]]:
-    """The package at a path as SPDX has it, each of its files so, and the names and versions of what is linked into them."""
+    """The package at a path as SPDX has it, each of its files so, and what `linked_into` finds in them. `maintainer` is as for `contents`."""
     with open(package, "rb") as file:
         octets = file.read()
     fields = fields_of(package)
