@@ -74,7 +74,7 @@ put() {
     install -D -m "$1" "$here/$2" "$room/$3/$4"
 }
 
-# package NAME ARCHITECTURE SECTION FIELDS SHORT LONG: makes a package of the folder NAME in $room, and puts it into `made`. FIELDS are further lines of
+# package NAME ARCHITECTURE SECTION FIELDS SHORT LONG: makes a package of the folder NAME in $room, in `made`. FIELDS are further lines of
 # its control file, as Depends, SHORT is its description in one line, and LONG in more, of which all but the first begin with a space. Its size is
 # counted as Debian counts: KiB of each file, rounded up, and 1 for each folder and link.
 package() {
