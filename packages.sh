@@ -74,9 +74,9 @@ put() {
     install -D -m "$1" "$here/$2" "$room/$3/$4"
 }
 
-# package NAME ARCHITECTURE SECTION FIELDS SHORT LONG: makes a package of the folder NAME in $room. FIELDS are further lines of its control file, as
-# Depends, SHORT is its description in one line, and LONG in more, of which all but the first begin with a space. Its size is counted as Debian
-# counts: KiB of each file, rounded up, and 1 for each folder and link.
+# package NAME ARCHITECTURE SECTION FIELDS SHORT LONG: makes a package of the folder NAME in $room, in `made`. FIELDS are further lines of
+# its control file, as Depends, SHORT is its description in one line, and LONG in more, of which all but the first begin with a space. Its size is
+# counted as Debian counts: KiB of each file, rounded up, and 1 for each folder and link.
 package() {
     local name=$1 architecture=$2 section=$3 fields=$4 short=$5 long=$6 folder=$room/$1 size
     install -d "$folder/DEBIAN" "$folder/usr/share/doc/$name"
@@ -131,8 +131,8 @@ Depends: $shared (= $version), libc6-dev" "decide requests by access lists and c
  that is linked with the static library needs no other package where it runs."
 }
 
-# build_daemon LIBRARY PROGRAM: builds the daemon as PROGRAM over a static library. No path of this machine gets into it. (The hash in the flags is
-# there so that Go builds anew for another library.)
+# build_daemon LIBRARY PROGRAM: builds the daemon as PROGRAM over a static library, both absolute paths. No path of this machine gets into it. (The
+# hash in the flags is there so that Go builds anew for another library.)
 build_daemon() {
     local flags
     flags="-g -O2 -DSPKI_OF_LIBRARY_$(sha256sum < "$1" | cut -c 1-64)"

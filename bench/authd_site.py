@@ -106,8 +106,8 @@ def free_ports(count):
 
 
 class Site:
-    """The files and the programs in `folder`. `nginx` has the ports for nginx alone, with the handler, and with the daemon. `list` is the
-    path of the access list, and `running` has the processes that `end` ends."""
+    """The files and the programs in `folder`. `nginx` has the ports for nginx alone, with the handler, and with the daemon. `list` is the path of the
+    access list, `program` that of the daemon, once built, `handler` the process of the handler, and `running` has the processes that `end` ends."""
 
     def __init__(self, folder, library):
         """Writes the page, the list and the certificates into `folder`. The daemon is to be built with the library at the path `library`."""

@@ -94,7 +94,7 @@ def hexadecimal_strings(size):
 
 
 def braces(size):
-    """Short strings, in braces: as base64, which has four octets for three. Four octets are left for the braces."""
+    """Short strings, in braces: as base64, which has four octets for three. Four octets are left for the braces and what base64 fills up with."""
     return braced(filled(3 * (size - 4) // 4, b"3:abc1:d"))
 
 
@@ -146,7 +146,8 @@ def measure(form, texts):
 
 
 def ratio_beside_peer(form, text, seconds, peer_seconds):
-    """The ratio of the seconds of `spki` to those of `sexp-conv`. If it is over its limit, the ratio of their instructions, if that is less."""
+    """The ratio of the seconds of `spki` to those of `sexp-conv`. If it is over its limit, the ratio of their instructions, if that is less: then
+    OSError is raised if neither perf nor valgrind is there."""
     ratio = seconds / peer_seconds
     if ratio <= LIMIT_PEER:
         return ratio

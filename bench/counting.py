@@ -21,7 +21,7 @@ def counted_by_perf(command, text):
 
 def counted_by_valgrind(command, text, *flags, settings=None):
     """The instructions that a command takes on an open text, counted by valgrind, with flags of valgrind and settings added to the environment.
-    Raises OSError if there is no valgrind."""
+    Raises OSError if there is no valgrind, and AttributeError if it cannot run the command."""
     with tempfile.NamedTemporaryFile() as out:
         words = ["valgrind", "--tool=callgrind", f"--callgrind-out-file={out.name}", *flags]
         done = subprocess.run(words + command, stdin=text, capture_output=True, env={**os.environ, **(settings or {})})
@@ -41,7 +41,7 @@ def counted_with_cache(blocks):
 
 
 def counted_allocations(command, text):
-    """The blocks of memory that a command allocates on an open text, counted by valgrind. Raises OSError if there is no valgrind."""
+    """The blocks of memory that a command allocates on an open text, counted by valgrind. Raises as `counted_by_valgrind` does."""
     done = subprocess.run(["valgrind", *command], stdin=text, capture_output=True)
     return int(re.search(rb"total heap usage: ([\d,]+) allocs", done.stderr).group(1).replace(b",", b""))
 
@@ -70,8 +70,8 @@ def can_count():
 
 
 def count_one_call(count, words, calls=100):
-    """What the counter `count` counts of one call, by a program whose last word is the number of calls: what further calls add, divided by their
-    number. What the program does besides is the same for each number of calls. Raises CalledProcessError if the program fails."""
+    """What the counter `count` counts of one call, by a program whose last word, behind `words`, is the number of calls: what `calls` further calls
+    add, divided by `calls`. What the program does besides is the same for each number. Raises CalledProcessError if the program fails."""
     # (a counter does not look at the status of the program)
     subprocess.run([*words, "1"], stdout=subprocess.DEVNULL, check=True)
     few, many = (counted(count, [*words, str(number)], b"") for number in (1, 1 + calls))

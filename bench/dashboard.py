@@ -73,8 +73,8 @@ def rates(samples, name, labels):
 
 
 def quantile(samples, share):
-    """For each second the least bound of the daemon's histogram, in milliseconds, within which a share (0.99) of its answers came. The greatest
-    bound if fewer did. `samples` is as for `rates`."""
+    """For each second the least bound of the daemon's histogram, in milliseconds, within which a share (0.99) of its answers came: the greatest
+    bound if fewer did, the least of all if there was no answer. `samples` is as for `rates`."""
     # (the labels of a bucket are `le="0.005"`: so many answers took at most 0.005 seconds)
     bounds = sorted({float(labels[4:-1]) for name, labels in samples[0] if name == "seconds_bucket" and "Inf" not in labels})
     by_bound = [rates(samples, "seconds_bucket", f'le="{bound:g}"') for bound in bounds]
@@ -96,7 +96,7 @@ def panels(samples):
 
 
 def elements_of(place, title, lines):
-    """Yields the elements of a panel in SVG. Its place is 0 to 3, by rows of two. `lines` are those of `panels`."""
+    """Yields the elements of a panel in SVG. Its place is 0 to 3, by rows of two. `lines` are those of `panels`, for two samples or more."""
     left, top = LEFT + place % 2 * (WIDTH + 80), TOP_OF_PANEL + place // 2 * ROW
     most = max(max(values) for _, values in lines) or 1
     # (with four digits that count)

@@ -75,7 +75,7 @@ class Asker(threading.Thread):
         self.socket, self.people, self.ends, self.answers = socket, list(people.items()), threading.Event(), []
 
     def run(self):
-        """Asks until `end` is called. The people take turns."""
+        """Asks until `end` is called. The people take turns. Ends at once, with a traceback, if a connection fails or has no answer."""
         while not self.ends.wait(PAUSE):
             name, person = self.people[len(self.answers) % len(self.people)]
             begun = time.monotonic()

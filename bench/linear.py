@@ -243,8 +243,8 @@ class Shape:
         return largest_count(lambda count: lengths_in_case(self.make(count, 2, members))[0], octets)
 
     def fitting(self, size):
-        """The numbers of entries and certificates in the largest text of at most `size` octets: first as many entries as the list's part allows, and
-        then as many certificates as fit into what is left."""
+        """The numbers of entries and certificates in a text of at most `size` octets: first as many entries as the list's part allows, and then as
+        many certificates as fit into what is left, both by `largest_count`."""
         entries = self.entries(int(size * self.listed), self.members)
         # (what a case has besides its list: it does not depend on the number of entries)
         others = lengths_in_case(self.make(1, 2, self.members))[1]
@@ -252,14 +252,14 @@ class Shape:
         return entries, largest_count(lambda count: lengths_in_case(self.make(1, count, self.members))[1], size - list_octets)
 
     def text(self, size):
-        """What the largest text of at most so many octets is, in words, and the text."""
+        """What the text is that has the numbers of `fitting`, in words, and the text."""
         counts = self.fitting(size)
         return self.what.format(*counts), self.make(*counts, self.members)
 
 
 def largest_count(octets_of, octets):
-    """The largest count for which `octets_of(count)` is at most `octets`, if it grows by the same for each; 1 if it does not grow. The growth is that
-    from the count 2 to the count 12. 16 octets are left free, for lengths that have more digits there."""
+    """The largest count for which `octets_of(count)` is at most `octets` - 16, if it grows by the same for each, mostly a lower one otherwise; 1 if
+    none is so small, or it does not grow. The growth is that from 2 to 12. The 16 octets are for lengths that have more digits behind that."""
     few, many = octets_of(2), octets_of(12)
     return max(1, 2 + (octets - 16 - few) * 10 // (many - few)) if many > few else 1
 

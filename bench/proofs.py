@@ -25,7 +25,8 @@ PART = re.compile(r"Rattle-\w+-proofs\.(?:(?P<function>.*)\.)?(?P<part>[^.]+)")
 
 
 def parts_in(folder):
-    """Yields the parts of proofs that a check has written to a folder, in order: the function, its part, and the seconds from the file before it."""
+    """Yields the parts of proofs that a check has written to a folder, in order of time: the function, its part, and the seconds from the file before
+    it. The first file of all is left out."""
     paths = [os.path.join(parent, name) for parent, _, names in os.walk(folder) for name in names]
     files = sorted((os.stat(path).st_mtime, os.path.basename(path)) for path in paths)
     for (begin, _), (end, name) in zip(files, files[1:]):

@@ -12,7 +12,8 @@ enum { PARTS = 5 };
 
 static const struct spki_limits highest = SPKI_HIGHEST_LIMITS;
 
-/* What a program has of a file: the texts of the list and the question, both opened, and a buffer of `room` octets for answers. */
+/* What a program has of a file: the texts of the list and the question, both opened (`asked` is null until `open_and_mark` opened the question), and
+ * a buffer of `room` octets for answers. */
 struct held {
     struct spki_text list;
     struct spki_question question;

@@ -250,12 +250,12 @@ def formed(form: Form, octets: int) -> Form | None:
     return replace(form, lists=lists) if lists else None
 
 
-# ---- changes by chance
+# ---- changes by chance (what is drawn may be what was there)
 
 
 def near(chance: random.Random, number: int, most: int) -> int:
-    """A number from 1 to `most`: in seven of ten calls one that is up to 2.8 times more or less than `number`, and otherwise any, of each
-    length in bits as often."""
+    """A number from 1 to `most`: in seven of ten calls one that is up to 2.8 times more or less than `number`, give or take 1, and otherwise any, of
+    each length in bits about as often."""
     if chance.random() < 0.3:
         return min(most, int(2 ** chance.uniform(0, most.bit_length())))
     return max(1, min(most, int(number * 2 ** chance.uniform(-1.5, 1.5)) + chance.choice((-1, 0, 1))))
@@ -283,8 +283,8 @@ def changed_link(chance: random.Random, link: Link) -> Link:
 
 
 def changed(chance: random.Random, recipe: Recipe) -> Recipe:
-    """The recipe with one part changed by chance: its entries, a link, which number grows, or who asks for what. One with four links gets
-    no further one."""
+    """The recipe with one part changed by chance: its entries, a link, which may also be added or removed, which number grows, or who asks for what.
+    One with four links gets no further one."""
     entries, links, part = recipe.entries, recipe.links, chance.choice(("entries", "entries", "link", "link", "links", "grows", "request", "by"))
     if part == "entries":
         changes = (replace(entries, tag=changed_tag(chance, entries.tag)), replace(entries, names=chance.choice((0, 0, 1, 2, 50))),

@@ -97,7 +97,7 @@ def simulated_hits(chance, count, kept, requests):
 def machines(rate, hits):
     """The daemons and the replicas that so many decisions a second need, and their misses a second. `hits` is the share of decisions by kept rows."""
     misses = rate * (1 - hits)
-    # (the seconds of a processor that all daemons together take in a second)
+    # (the seconds of a processor that all daemons together take in a second: rather too many, as HTTP has a decision too)
     seconds = rate * (HTTP + hits * HIT + (1 - hits) * MISS)
     return math.ceil(seconds / (CORES * BUSY)), max(LEAST, math.ceil(misses * ROWS / (CORES * BUSY))), misses
 

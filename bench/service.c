@@ -130,8 +130,8 @@ static answering *call_for(const char *kind)
     exit(2);
 }
 
-/* The way `widest`: prints the status of one answer of a kind, the ms of listing the signatures and answering, those of listing them, and the MiB.
- * The limits are the usual ones, but without any on the certificates of a sequence and the strings of a request. */
+/* The way `widest`: prints the status of one answer of a kind, or of opening the question if that fails, the ms of listing the signatures and
+ * answering, those of listing them, and the MiB. The limits are the usual ones, but without those on certificates and on strings of a request. */
 static void ask_widest(const char *kind, const char *path)
 {
     struct spki_limits limits = SPKI_USUAL_LIMITS;

@@ -539,7 +539,7 @@ def scaling_of_threads(driver):
 
 def print_and_check(what, value):
     """Prints a measured value beside its limit. Returns whether it is within the limit. `what` is the name of a limit in MOST or LEAST."""
-    least, most = LEAST.get(what, 0), MOST.get(what, float("inf"))
+    least, most = LEAST.get(what, float("-inf")), MOST.get(what, float("inf"))
     is_within = least <= value <= most
     limit = f"at least {least:,.2f}" if what in LEAST else f"at most {most:,.2f}"
     print(f"{what}: {value:,.2f} ({limit}){'' if is_within else ': LIMIT PASSED'}")

@@ -2,7 +2,8 @@
 //! question, as `question.h` reads them, and then follows how many decisions. Every signature counts as verified.
 use spki::{Guard, Limits, Moment, Policy, ProvenKey, Question, Request};
 
-/// The texts of a file, in which each is its number of octets on a line, and the octets. Panics if a number is none, or more than is left.
+/// The texts of a file, in which each is its number of octets on a line, and the octets. Octets behind the last text are left out if they have no
+/// line feed. Panics if a line is no number, or a greater one than octets are left.
 fn texts_in(mut rest: &[u8]) -> Vec<&[u8]> {
     let mut texts = Vec::new();
     while let Some(end) = rest.iter().position(|octet| *octet == b'\n') {

@@ -163,11 +163,11 @@ class Cost(NamedTuple):
 
 
 class TooSlow(Exception):
-    """A run was ended, since it took too long."""
+    """A run was ended, most likely since it took too long."""
 
 
 class Measure:
-    """Runs calls, in a folder of its own."""
+    """Runs calls, in a folder of its own. What takes `seconds` raises TooSlow as `run` does, but for `cost_of`."""
 
     def __init__(self, folder: str, program: str, library: str) -> None:
         """`program` is the path of `spki`, `library` that of the library for C, and `folder` gets the files."""
@@ -187,7 +187,7 @@ class Measure:
 
     def run(self, words: list[str], seconds: float, **more: Any) -> subprocess.CompletedProcess[bytes]:
         """Runs a program, with further settings for `subprocess.run`. Raises TooSlow if it takes more than so many seconds of the processor, or up to
-        one more: prlimit takes whole seconds."""
+        one more, since prlimit takes whole seconds; also if anything else kills it by SIGKILL."""
         limit = int(seconds) + 1
         done = subprocess.run(["prlimit", f"--cpu={limit}", *words], **more)
         if done.returncode in (-signal.SIGXCPU, -signal.SIGKILL):
@@ -286,8 +286,8 @@ def search(measure: Measure, call: Call, first: Any, chance: random.Random, step
 
 
 def recipes_of(measure: Measure, call: Call, steps: int, seed: int) -> Iterator[tuple[str, Any]]:
-    """The recipes on which a call is measured in full, each with its name: the named ones, and the slowest that are found. A recipe is None where
-    no text of it is small enough."""
+    """The recipes on which a call is measured in full, each with its name: the named ones, and as `found` the slowest of searches of so many steps
+    together, none if that is 0. A recipe is None where no text of it is small enough."""
     of_call = [named for named in NAMED if call.what.startswith(named.words)]
     for named in of_call:
         yield named.what, sized(call, named.recipe, named.listed, named.asked)

@@ -115,7 +115,7 @@ def resident(process):
 
 
 def processes_of(parent):
-    """The numbers of a process and of those that it has started, by its number."""
+    """The numbers of a process and of its children, by its number."""
     words = ["ps", "-o", "pid=", "--ppid", str(parent)]
     return [parent, *map(int, subprocess.run(words, stdout=subprocess.PIPE, text=True, check=False).stdout.split())]
 
@@ -127,9 +127,9 @@ def heartbeat(address, *before):
 
 
 def start_daemon(program, server, folder, number, **more):
-    """Starts a daemon with the store of a server, and waits, however long, for the first line that it writes, by which it listens. Returns its
-    process and the path of its socket. `number` distinguishes its files in `folder`, and `more` are further settings of its store. Ends the script if
-    the daemon ends before that line."""
+    """Starts a daemon with the store of a server, and waits, however long, for the first line that it writes: it listens then, unless the line, which
+    is not looked at, says why it ends. Returns its process and the path of its socket. `number` distinguishes its files in `folder`, and `more` are
+    further settings of its store. Ends the script if the daemon ends without a line."""
     rules = [{"prefix": "/", "methods": {"GET": "read"}, "request": ["files", "{method}", "{path}"]}]
     path, config = os.path.join(folder, f"daemon-{number}"), os.path.join(folder, f"config-{number}")
     with open(config, "w", encoding="utf-8") as file:
@@ -163,7 +163,7 @@ def ask_by_people(server, library, count, program, number, rate, share=0.0):
 
 @contextlib.contextmanager
 def removing_added_entries(server):
-    """A context that removes the entries that are added within it, unless it ends by an exception, which ends the bench."""
+    """A context that removes the entries that are added within it, unless it ends by an exception, which ends the bench. Some must be there."""
     # (imported here, once `main` has set SPKI_LIBRARY)
     from spki_store_tool.tables import Store
     with contextlib.closing(Store(server.address, SCHEMA)) as store:
@@ -238,8 +238,8 @@ def fill(store, count, folder):
 
 
 def adds_a_second(store):
-    """How many entries a second can be added one after the other."""
-    # (a key that begins with `a` has no entry yet)
+    """How many entries a second can be added one after the other. They stay in the store."""
+    # (they are equal, for a key that begins with `a`, which had no entry)
     begun, text = time.monotonic(), next(entries(1)).replace(b"k0", b"a0")
     for _ in range(500):
         store.add(text)

@@ -6,7 +6,7 @@
 #include <malloc.h>
 #include <stddef.h>
 
-/* The octets of the blocks that were taken since begin_counting, and the most of them at once. (Freeing an older block subtracts too.) */
+/* The octets of the blocks that were taken since begin_counting, and the most of them at once. (Freeing an older one, or calloc's, subtracts too.) */
 static size_t taken, most;
 
 void *__real_malloc(size_t size);

@@ -83,7 +83,7 @@ def digests(octets: bytes, *names: str) -> list[Row]:
 
 
 def files_in(package: str) -> Iterator[tuple[str, bytes]]:
-    """Yields the paths and the octets of the files in the Debian package at a path."""
+    """Yields the paths and the octets of the files, but not the links, in the Debian package at a path."""
     tar = subprocess.run(["dpkg-deb", "--fsys-tarfile", package], stdout=subprocess.PIPE, check=True).stdout
     with tarfile.open(fileobj=io.BytesIO(tar)) as archive:
         for member in archive:
@@ -101,7 +101,7 @@ def fields_of(package: str) -> dict[str, str]:
 
 
 def description_of(package: str, maintainer: str) -> tuple[Row, list[Row], set[tuple[str, str]]]:
-    """The package at a path as SPDX has it, each of its files so, and the names and versions of what is linked into them."""
+    """The package at a path as SPDX has it, each of its files so, and what `linked_into` finds in them. `maintainer` is as for `contents`."""
     with open(package, "rb") as file:
         octets = file.read()
     fields = fields_of(package)

@@ -29,7 +29,7 @@ def path_of(file: str, lines: list[str], at: int, name: str) -> str:
 
 
 def function_around(file: str, lines: list[str], number: int) -> str | None:
-    """The path (`path_of`) of the function of a file that line `number`, from 0, is in. None if it is in none. A `}` indented as the head ends it."""
+    """The path (`path_of`) of the function that line `number` of a file, from 0, is in, or None. A later `}` that is indented as its head ends it."""
     for at in range(number, -1, -1):
         head = HEAD.match(lines[at])
         if head:

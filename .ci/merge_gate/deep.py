@@ -18,7 +18,7 @@ SEED = re.compile(r"^\d+ cases, seed ([0-9a-f]{8}): ", re.MULTILINE)
 
 def try_bodies(names: list[str], counts: Counts, sums: dict[str, str]) -> None:
     """Tries wrong bodies, over the libraries that `rt ci` has left. If one is missing, a failure is counted and none is tried. A name is
-    CRATE/NAME, or a crate for all of its. `sums` has `records.sum_of` from before `rt ci`: if all of a crate's are refused, it becomes its record."""
+    CRATE/NAME, or a crate for all of its. `sums` has by crate `records.sum_of` from before `rt ci`, recorded if all of its are refused."""
     crates = toolchain.crates(*(name.partition("/")[0] for name in names))
     lacking = {used.name for crate in crates.values() for used in crate.below() if not os.path.isdir(used.rlib)}
     if lacking:

@@ -16,7 +16,7 @@ GHOST = re.compile(r"^ *ghost \w+(?: =|:) (?:.|\n)*?\}[;,]$", re.MULTILINE)
 
 
 def read(path: str) -> str:
-    """The text of a file, without remarks, imports and blank lines."""
+    """The text of a file, without blank lines and those that begin as a remark or an import."""
     with open(path, encoding="utf-8") as file:
         return REMARK.sub("", file.read())
 

@@ -42,7 +42,7 @@ def rt_module() -> Any:
 
 
 def crates(*names: str) -> dict[str, Any]:
-    """The crates with these names, or all, those that use the fewest others first. Ends the process if one is missing."""
+    """The crates with these names, or without names all, by name, those that use the fewest others first. Ends the process if one is missing."""
     every = {crate.name: crate for crate in sorted(rt_module().rtlib.crates_below(TOP), key=lambda crate: len(crate.below()))}
     missing = sorted(set(names) - every.keys())
     if missing:
@@ -57,22 +57,22 @@ def applied(path: str, folder: str) -> tuple[dict[str, str], str]:
 
 
 def check_of(crate: Any, texts: dict[str, str], only: list[str], over: str) -> str:
-    """The output of a check of the functions `only`, given by their paths, of a crate with other texts. Empty if it does not judge them: a text could
-    not be read, or its status is neither 0 (all proved) nor 1. It begins with what the folder `over` has, and keeps there what it proves."""
+    """The output of a check of the functions `only` (paths as of `bodies.path_of`) of a crate with `texts` in place of its own. Empty if a text could
+    not be read, or the status is neither 0 (all proved) nor 1. Takes proofs from the folder `over`, empty at first, and keeps its own there."""
     ran = rt_module().checked(crate, texts, [*ONE_JOB, *(f"--only={path}" for path in only)], over)
     is_read = not any(rt_module().unread(line, texts) for line in ran.stdout.split("\n"))
     return ran.stdout if is_read and ran.returncode in (0, 1) else ""
 
 
 def verdict_on(crate: Any, path: str, over: str) -> tuple[bool, str]:
-    """Whether a crate's contract refuses the edit in the file `path`, and why. Checks the whole crate, beginning with what the folder `over` has."""
+    """Whether a crate's contract refuses the edit in the file `path`, and what `rt` says of it. False too if it is refused for one of SAYS_LITTLE, or
+    not tried. Checks the whole crate, over the folder `over` as `check_of` does."""
     verdict, why = rt_module().must_fail(crate, path, ONE_JOB, over)
     return verdict == rt_module().REFUSED and not any(words in why for words in SAYS_LITTLE), why
 
 
 def remove_kept_libraries() -> None:
-    """Removes the libraries that earlier runs have left: `rt ci` would put them back over those that it makes, and the library for C would be built
-    over old ones."""
+    """Removes libraries of earlier runs: `rt ci` would put them back over those that it makes, and the one for C would be built over old ones."""
     for path in [*glob.glob(os.path.join(TOP, "crates", "*", "out", "rlib")), os.path.join(TOP, "crates", "spki_c", "out", "incremental")]:
         shutil.rmtree(path, ignore_errors=True)
 
