@@ -68,7 +68,7 @@ class Builder:
         return (word("hash"), Atom(algorithm), Atom(digest), *uri)
 
     def subject(self, subject: Subject, issuer: Value | None = None) -> Value:
-        """A subject as it is written. If its key is that of the issuer, a name may be relative: `(name NAME ..)` without a principal."""
+        """A subject as it is written. If its key is `issuer` (None in an entry), a name may be relative: `(name NAME ..)` without a principal."""
         if not subject.names:
             return self.principal(subject.key)
         relative = subject.key == issuer and self.rng.random() < 0.4
@@ -200,7 +200,7 @@ class Builder:
 
 
 def with_rows_apart(case: Value, rng: random.Random) -> tuple[Value, Value]:
-    """A case, and its list `(accepted ROW ..)` as a value of its own. The list that stays in the case has no row, all rows, or all but the last."""
+    """A case, and its list `(accepted ROW ..)` as a value of its own. The list that stays is whole, has no row, or lacks its last member."""
     assert isinstance(case, tuple)
     accepted = case[2]
     assert isinstance(accepted, tuple)

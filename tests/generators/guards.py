@@ -43,7 +43,7 @@ Asked = Union[Question, GuardQuestion, Call, StringQuestion]
 
 
 def guard_question(rng: random.Random) -> GuardQuestion:
-    """A question to a guard of a case's list, with the other parts of the case. The text of each part is right, or by chance nearly right."""
+    """A question to a guard of a case's list, with the other parts of the case. Each text but the rows is right, or by chance nearly so."""
     case = Builder(rng).case()
     assert isinstance(case, tuple)
     acl, rows, sequence = case[1:4]
@@ -83,8 +83,8 @@ def part_text(value: Value, rng: random.Random) -> bytes:
 
 
 def strings_of(request: Value, rng: random.Random) -> tuple[bytes, ...] | None:
-    """The strings of a request, or by chance others. None if the request goes as a text: by chance, and always if strings cannot say it. They cannot
-    say a list of one member, since one string stands for itself, nor a list inside, nor a display hint."""
+    """By chance up to three strings of STRINGS. Else those of the request, or None if it goes as a text: by chance, and always if strings cannot say
+    it. They cannot say a list of one member, since one string stands for itself, nor a list inside, nor a display hint."""
     if rng.random() < 0.06:
         return tuple(rng.choice(STRINGS) for _ in range(rng.randrange(4)))
     members = request if isinstance(request, tuple) else (request,)

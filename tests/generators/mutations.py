@@ -198,7 +198,7 @@ def changed_string(old: Atom, rng: random.Random) -> Atom:
 
 
 def changed_list(old: tuple[Value, ...], rng: random.Random) -> Value:
-    """A list without its last member, or with two members swapped, the head mostly left in its place."""
+    """A list without its last member (if it has one), or with two members swapped, the head mostly left in its place."""
     if len(old) < 3 or rng.random() < 0.3:
         return old[:-1]
     first, second = rng.sample(range(0 if rng.random() < 0.1 else 1, len(old)), 2)
@@ -256,5 +256,5 @@ TEXT_MUTATIONS: tuple[Callable[[bytes, random.Random], bytes], ...] = (
 
 
 def mutated_text(text: bytes, rng: random.Random) -> bytes:
-    """A text that differs a little from the given one."""
+    """A text that mostly differs a little from the given one."""
     return rng.choice(TEXT_MUTATIONS)(text, rng)

@@ -11,7 +11,7 @@ EVERY = 20_000
 
 
 def too_long(rng: random.Random) -> bytes:
-    """A string as a text of one octet too many, or of just as many as are read. Its length, of seven digits, and the colon are 8 of them."""
+    """A string as a text of just as many octets as are read, mostly with one more behind it. Its length, of seven digits, and the colon are 8."""
     return b"%d:" % (LONGEST - 8) + (LONGEST - 8 + rng.choice((0, 1, 1, 1, 1))) * b"a"
 
 

@@ -110,7 +110,7 @@ def number(value: int) -> bytes:
 
 
 def failing_ends() -> Iterator[CallRow]:
-    """Calls of `run` on the first run, one octet a call, in which the reader or the writer fails after `room` octets, or the writer takes no more."""
+    """Calls of `run` on the first run, in which the reader or the writer, at an octet a call, fails after `room` octets, or the writer is full."""
     # (the texts and the answers are those that the head of this file describes for `run`; 3 is the status where reading or writing fails)
     text = first_run()
     for room in range(len(text) + 1):

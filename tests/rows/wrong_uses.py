@@ -54,7 +54,7 @@ def parts_of(language: str) -> tuple[str, list[Row]]:
 
 
 def program_of(shared: str, rows: list[Row]) -> tuple[str, dict[int, Row]]:
-    """The text of a program that does these rows, all of one language, and for the number, from 1, of each line in a row's function, that row."""
+    """The program that does these rows, one or more of a language, and for the number, from 1, of each line in a row's function, that row."""
     text, lines = shared + "\n", {}
     for row in rows:
         first = text.count("\n") + 1
