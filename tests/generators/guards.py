@@ -68,7 +68,7 @@ def limits_for(wish: str, rng: random.Random) -> Limits:
 
 def with_oddity(question: GuardQuestion, rng: random.Random, oddity: str) -> GuardQuestion:
     """The question with an oddity, the name of a row of MISUSES or ALLOWED (model/guard.py). For four of them its policy or a limit is set wrong
-    here. harness/guard_door.py makes the calls with the other oddities. Limits that are not set wrong become the usual ones."""
+    here. harness/guard_door.py makes the calls with the others. Limits that are right become the usual ones: a low one might refuse the question."""
     policy = rng.choice((2, 3, 255, 2**31, 2**32 - 1)) if oddity == NO_POLICY else question.policy
     octets = rng.choice((HIGHEST.octets + 1, 2**63, 2**64 - 1)) if oddity == OCTETS_ABOVE else USUAL.octets
     nodes = rng.choice((HIGHEST.nodes + 1, 2**63, 2**64 - 1)) if oddity == NODES_ABOVE else USUAL.nodes
