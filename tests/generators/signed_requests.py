@@ -379,11 +379,9 @@ def changed_components() -> None:
     row("a component twice", "component-twice", Request(components=(*PLAIN, "@path")))
     for name in ("@status", "@scheme", "@request-target"):
         row(f"the component {name}", "unknown-component", Request(components=(*PLAIN, name)))
-    param = parameters_of(GET).replace('"@query"', '"@query";name="a"')
-    row("the component @query-param", "unknown-component", GET, signed(Request(parameters=param)))
     (_, text), signature = signed(GET)
     for name, component in {"a component with a parameter": '"@path";req', "a component in capitals": '"@PATH"', "an empty component": '""',
-                            "the component signature": '"signature"'}.items():
+                            "the component signature": '"signature"', "the component @query-param": '"@query-param";name="a"'}.items():
         row(name, "unknown-component", GET, [("Signature-Input", text.replace('"@path"', component)), signature])
 
 
