@@ -112,7 +112,8 @@ class Builder:
         return Subject(self.rng.choice(self.keys), names)
 
     def certificate(self, subject: Subject, is_last: bool) -> Subject:
-        """Adds the certificate that continues the chain from a subject. Returns the subject that follows."""
+        """Adds the certificate that continues the chain from a subject: an authorization mostly delegates, unless it `is_last`. Returns the subject
+        that follows."""
         issuer = subject.key if not self.wrong() else self.rng.choice(self.keys)
         principal = self.principal(issuer)
         self.hashed += [issuer] if principal != issuer else []

@@ -218,7 +218,7 @@ def changed_octets(text: bytes, rng: random.Random) -> bytes:
 
 
 def changed_length(text: bytes, rng: random.Random) -> bytes:
-    """A text with a string's length off by one, larger by 10 to 10^19, or with a 0 before or a space behind. Without one: with an octet changed."""
+    """A text with a string's length off by one (if not 0), larger by 10 to 10^19, or with a 0 before or a space behind; else as `changed_octets`."""
     lengths = list(LENGTH.finditer(text))
     if not lengths:
         return changed_octets(text, rng)

@@ -203,7 +203,7 @@ WITH_URI = Request(components=("@method", "@authority", "@target-uri", KEY))
 
 
 def valid_requests() -> None:
-    """Requests that are valid."""
+    """Requests that are valid, some of them changed behind the signature in what does not count."""
     more = [f"x-{number}" for number in range(27)]  # (with the 5 of PLAIN these are 32 components, as many as are allowed)
     for name, request in {
         "Ed25519": GET, "ECDSA": Request(key=P256), "ECDSA with P-384": Request(key=P384), "RSA": Request(key=RSA), "target-uri": WITH_URI,

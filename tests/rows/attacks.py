@@ -206,7 +206,7 @@ def with_statuses(attacks: Iterator[Plain], must: set[int]) -> Iterator[Attack]:
 
 
 def all_attacks() -> Iterator[Attack]:
-    """All attacks. One by a path with `..` or other than plain characters, or at LEAVING, the server may also refuse by itself, or find nothing."""
+    """All attacks. The server may refuse those with doubled parts by itself too, and refuse or not find those at LEAVING or by a path not plain."""
     yield from with_statuses(attacks_by_headers(), DENIED)
     yield from with_statuses(attacks_by_doubled_parts(), MALFORMED)
     yield from with_statuses(attacks_by_methods(), DENIED)

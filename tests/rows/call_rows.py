@@ -52,7 +52,8 @@ class CallRow(NamedTuple):
 
 
 def rows_of(table: str) -> Iterator[CallRow]:
-    """The rows of a table in the folder `calls/`, by the table's name. A row with the names of several calls becomes one for each of them."""
+    """The rows of a table in the folder `calls/`, by its name: of several calls one for each. Raises ValueError for a line of one field, and what
+    `unescaped` raises."""
     with open(os.path.join(CALLS, table), "rb") as lines:
         for number, line in enumerate(lines, 1):
             line = line.rstrip(b"\n")
