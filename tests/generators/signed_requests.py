@@ -386,7 +386,7 @@ def changed_components() -> None:
 
 
 def changed_parameters() -> None:
-    """Parameters that are left out, come twice or are not those of the profile, and requests outside their window."""
+    """Parameters that are left out, come twice or are not those of the profile or of the key, and requests outside their window."""
     for name in ("created", "expires", "nonce", "keyid", "alg", "tag"):
         parameters = parameters_of(GET).split(";")
         others = [parameter for parameter in parameters if not parameter.startswith(name)]
