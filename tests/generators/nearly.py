@@ -16,8 +16,8 @@ def maybe_changed(value: Value, rng: random.Random, chance: float) -> Value:
 
 
 def maybe_wrong_text(value: Value, rng: random.Random, wrong: float = 0.35) -> bytes:
-    """A text of a value, with mistakes by chance. `wrong` is the chance of a first mistake in the text, and halves with each. By a quarter of it
-    the text is, before these are drawn, a right transport form whose octets are nearly a canonical form."""
+    """A text of a value, with mistakes by chance. `wrong` is the chance of a first mistake in the text, and halves with each. Before, by
+    a quarter of this chance, it is a right transport form whose octets are nearly a canonical form, and has no other mistake."""
     if rng.random() < wrong / 4:
         return spellings.in_braces(mutated_text(canonical(value), rng), rng)
     text = spellings.text_of(value, rng)

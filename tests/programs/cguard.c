@@ -293,7 +293,7 @@ static void refused_questions(void)
     spki_guard_close(guard);
 }
 
-/* The usual limits are 64 strings, and 65,536 octets of all texts of a question: more are refused. Here the key alone has so many octets. */
+/* By the usual limits more than 64 strings are refused, and more than 65,536 octets of all texts of a question: here the key alone has so many. */
 static void usual_limits(void)
 {
     static char long_key[65536];
@@ -486,7 +486,7 @@ static void close_guard_beside(size_t count)
 /* The last second of the year 9999: no later moment can be asked. */
 #define LAST_SECOND INT64_C(253402300799)
 
-/* A yes that is kept holds until its window ends, and no second longer, and without a window always. A no does not hold. */
+/* A yes that is kept holds from 1970 until its window ends, and no second longer, or without end if it has no window. A no does not hold. */
 static void kept_decisions(void)
 {
     static const struct { const char *list; int64_t until; } rows[] = {
