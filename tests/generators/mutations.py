@@ -230,7 +230,7 @@ def changed_length(text: bytes, rng: random.Random) -> bytes:
 
 
 def cut(text: bytes, rng: random.Random) -> bytes:
-    """A beginning of a text."""
+    """A beginning of a text, by chance all or nothing of it."""
     return text[:rng.randrange(len(text) + 1)]
 
 
@@ -240,7 +240,7 @@ def continued(text: bytes, rng: random.Random) -> bytes:
 
 
 def with_snippet(text: bytes, rng: random.Random) -> bytes:
-    """A text with one of SNIPPETS put in, behind a parenthesis or a space, or behind the first octet if it has neither."""
+    """A text with one of SNIPPETS put in, behind a parenthesis or a space, or behind the first octet if it has neither; by chance with a space."""
     where = [at for at in range(len(text)) if text[at:at + 1] in (b"(", b")", b" ")] or [0]
     at = rng.choice(where) + 1
     return text[:at] + rng.choice(SNIPPETS) + rng.choice((b" ", b"")) + text[at:]
