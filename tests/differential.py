@@ -137,7 +137,7 @@ class Library:
 
 
 def fault_of_program(program: str, asked: Question, wanted: Answer) -> str | None:
-    """What is wrong with the program's answer to a text, None if nothing is. `wanted` is what the model answers."""
+    """What is wrong with the program's answer to a text, None if nothing is. `wanted` is the model's. Raises TimeoutExpired after SECONDS."""
     done = subprocess.run([program, asked.command], input=asked.text, stdout=subprocess.PIPE, stderr=subprocess.DEVNULL, timeout=SECONDS)
     return None if (done.returncode, done.stdout) == wanted else f"the program answers {in_short((done.returncode, done.stdout))}"
 

@@ -9,8 +9,8 @@
 #include <stdio.h>
 #include <string.h>
 
-/* The most octets of a text, the room for strings of a request (whose usual limit is 64), the number of keys, the most lists in one another in a tag,
- * a number over the most members of one such list, and the algorithms of put_hash. */
+/* The most octets of a text, the room for strings of a request (whose usual limit is 64), the number of usual keys, the most lists in one another in
+ * a tag, a number over the most members of one such list, and the algorithms of put_hash. */
 enum { MOST_OCTETS = 32768, MOST_WORDS = 66, KEYS = 5, MOST_DEPTH = 3, MEMBERS = 4, BY_SHA256 = 0, BY_SHA512, BY_SHA1 };
 
 /* What is left of the input. Behind its end all octets are 0. */
@@ -240,8 +240,8 @@ static void put_fields(struct input *in, struct text *to)
         put_limit(in, to, "not-after", LATE);
 }
 
-/* Adds a certificate and its signature. Mostly the issuer is the key with the number `place`, and the subject
- * the next one, so that the certificates are a chain. The signature is mostly right: a hash of this certificate, by its issuer. */
+/* Adds a certificate and its signature. Mostly the issuer is the key with the number `place`, and the subject the next one, so that the certificates
+ * are a chain. The signature is mostly right: a hash of this certificate, by its issuer. */
 static void put_certificate(struct input *in, struct text *to, unsigned place)
 {
     static struct text message;
@@ -265,7 +265,7 @@ static void put_certificate(struct input *in, struct text *to, unsigned place)
     end_list(to);
 }
 
-/* Adds an entry of the access list, mostly for the key with the number 0, with which the chain begins. */
+/* Adds an entry of the access list, mostly for the key with the number 0, with which the chain begins, and else for a name, mostly of that key. */
 static void put_entry(struct input *in, struct text *to)
 {
     begin_list(to, "entry");

@@ -68,7 +68,7 @@ class Builder:
         return (word("hash"), Atom(algorithm), Atom(digest), *uri)
 
     def subject(self, subject: Subject, issuer: Value | None = None) -> Value:
-        """A subject as it is written. If its key is that of the issuer, a name may be relative: `(name NAME ..)` without a principal."""
+        """A subject as it is written. If its key is `issuer` (None in an entry), a name may be relative: `(name NAME ..)` without a principal."""
         if not subject.names:
             return self.principal(subject.key)
         relative = subject.key == issuer and self.rng.random() < 0.4
@@ -112,7 +112,8 @@ class Builder:
         return Subject(self.rng.choice(self.keys), names)
 
     def certificate(self, subject: Subject, is_last: bool) -> Subject:
-        """Adds the certificate that continues the chain from a subject. Returns the subject that follows."""
+        """Adds the certificate that continues the chain from a subject: an authorization mostly delegates, unless it `is_last`. Returns the subject
+        that follows."""
         issuer = subject.key if not self.wrong() else self.rng.choice(self.keys)
         principal = self.principal(issuer)
         self.hashed += [issuer] if principal != issuer else []
@@ -200,7 +201,7 @@ class Builder:
 
 
 def with_rows_apart(case: Value, rng: random.Random) -> tuple[Value, Value]:
-    """A case, and its list `(accepted ROW ..)` as a value of its own. The list that stays in the case has no row, all rows, or all but the last."""
+    """A case, and its list `(accepted ROW ..)` as a value of its own. The list that stays is whole, has no row, or lacks its last member."""
     assert isinstance(case, tuple)
     accepted = case[2]
     assert isinstance(accepted, tuple)

@@ -43,7 +43,7 @@ Asked = Union[Question, GuardQuestion, Call, StringQuestion]
 
 
 def guard_question(rng: random.Random) -> GuardQuestion:
-    """A question to a guard of a case's list, with the other parts of the case. The text of each part is right, or by chance nearly right."""
+    """A question to a guard of a case's list, with the other parts of the case. Each text but the rows is right, or by chance nearly so."""
     case = Builder(rng).case()
     assert isinstance(case, tuple)
     acl, rows, sequence = case[1:4]
@@ -68,7 +68,7 @@ def limits_for(wish: str, rng: random.Random) -> Limits:
 
 def with_oddity(question: GuardQuestion, rng: random.Random, oddity: str) -> GuardQuestion:
     """The question with an oddity, the name of a row of MISUSES or ALLOWED (model/guard.py). For four of them its policy or a limit is set wrong
-    here. harness/guard_door.py makes the calls with the other oddities. Limits that are not set wrong become the usual ones."""
+    here. harness/guard_door.py makes the calls with the others. Limits that are right become the usual ones: a low one might refuse the question."""
     policy = rng.choice((2, 3, 255, 2**31, 2**32 - 1)) if oddity == NO_POLICY else question.policy
     octets = rng.choice((HIGHEST.octets + 1, 2**63, 2**64 - 1)) if oddity == OCTETS_ABOVE else USUAL.octets
     nodes = rng.choice((HIGHEST.nodes + 1, 2**63, 2**64 - 1)) if oddity == NODES_ABOVE else USUAL.nodes
@@ -83,8 +83,8 @@ def part_text(value: Value, rng: random.Random) -> bytes:
 
 
 def strings_of(request: Value, rng: random.Random) -> tuple[bytes, ...] | None:
-    """The strings of a request, or by chance others. None if the request goes as a text: by chance, and always if strings cannot say it. They cannot
-    say a list of one member, since one string stands for itself, nor a list inside, nor a display hint."""
+    """By chance up to three strings of STRINGS. Else those of the request, or None if it goes as a text: by chance, and always if strings cannot say
+    it. They cannot say a list of one member, since one string stands for itself, nor a list inside, nor a display hint."""
     if rng.random() < 0.06:
         return tuple(rng.choice(STRINGS) for _ in range(rng.randrange(4)))
     members = request if isinstance(request, tuple) else (request,)

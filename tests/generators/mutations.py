@@ -198,7 +198,7 @@ def changed_string(old: Atom, rng: random.Random) -> Atom:
 
 
 def changed_list(old: tuple[Value, ...], rng: random.Random) -> Value:
-    """A list without its last member, or with two members swapped, the head mostly left in its place."""
+    """A list without its last member (if it has one), or with two members swapped, the head mostly left in its place."""
     if len(old) < 3 or rng.random() < 0.3:
         return old[:-1]
     first, second = rng.sample(range(0 if rng.random() < 0.1 else 1, len(old)), 2)
@@ -218,7 +218,7 @@ def changed_octets(text: bytes, rng: random.Random) -> bytes:
 
 
 def changed_length(text: bytes, rng: random.Random) -> bytes:
-    """A text with a string's length off by one, larger by 10 to 10^19, or with a 0 before or a space behind. Without one: with an octet changed."""
+    """A text with a string's length off by one (if not 0), larger by 10 to 10^19, or with a 0 before or a space behind; else as `changed_octets`."""
     lengths = list(LENGTH.finditer(text))
     if not lengths:
         return changed_octets(text, rng)
@@ -230,7 +230,7 @@ def changed_length(text: bytes, rng: random.Random) -> bytes:
 
 
 def cut(text: bytes, rng: random.Random) -> bytes:
-    """A beginning of a text."""
+    """A beginning of a text, by chance all or nothing of it."""
     return text[:rng.randrange(len(text) + 1)]
 
 
@@ -240,7 +240,7 @@ def continued(text: bytes, rng: random.Random) -> bytes:
 
 
 def with_snippet(text: bytes, rng: random.Random) -> bytes:
-    """A text with one of SNIPPETS put in, behind a parenthesis or a space, or behind the first octet if it has neither."""
+    """A text with one of SNIPPETS put in, behind a parenthesis or a space, or behind the first octet if it has neither; by chance with a space."""
     where = [at for at in range(len(text)) if text[at:at + 1] in (b"(", b")", b" ")] or [0]
     at = rng.choice(where) + 1
     return text[:at] + rng.choice(SNIPPETS) + rng.choice((b" ", b"")) + text[at:]
@@ -256,5 +256,5 @@ TEXT_MUTATIONS: tuple[Callable[[bytes, random.Random], bytes], ...] = (
 
 
 def mutated_text(text: bytes, rng: random.Random) -> bytes:
-    """A text that differs a little from the given one."""
+    """A text that mostly differs a little from the given one."""
     return rng.choice(TEXT_MUTATIONS)(text, rng)

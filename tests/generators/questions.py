@@ -69,11 +69,11 @@ def limit_question(rng: random.Random) -> Question:
 
 
 def call(rng: random.Random) -> Call:
-    """A call that is misused, or nearly. Without a number it is `spki_check_accepted`, which takes two texts."""
+    """A call of `spki_answer` or, if `number` is None, of `spki_check_accepted`, which takes two texts. It is misuse, or nearly (see `Call`)."""
     number = rng.choice((None, None, *range(len(COMMANDS)), len(COMMANDS), len(COMMANDS) + 1, 255, 2**32 - 1))
     texts = [(rng.random() < 0.4, rng.choice((0, 0, 0, 1, 2**31, 2**63 - 1, 2**63, 2**64 - 1))) for _ in range(2 if number is None else 1)]
     buffer = rng.choice(((False, ROOM), (False, ROOM), (True, 0), (True, 1), (False, 2**63), (True, 2**64 - 1), (False, 5)))
-    # (No octets are behind a pointer here. So one that is not null has the length 0, or one of 2^63 or more, which is refused before it is read.)
+    # (No text has octets. So if its pointer is not null, its length is 0, or 2^63 or more, which is refused before the text is read.)
     return Call(number, tuple((is_null or 0 < length < 2**63, length) for is_null, length in texts), buffer)
 
 

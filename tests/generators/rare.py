@@ -11,7 +11,7 @@ EVERY = 20_000
 
 
 def too_long(rng: random.Random) -> bytes:
-    """A string as a text of one octet too many, or of just as many as are read. Its length, of seven digits, and the colon are 8 of them."""
+    """A string as a text of just as many octets as are read, mostly with one more behind it. Its length, of seven digits, and the colon are 8."""
     return b"%d:" % (LONGEST - 8) + (LONGEST - 8 + rng.choice((0, 1, 1, 1, 1))) * b"a"
 
 
@@ -49,7 +49,7 @@ def too_many_nodes(rng: random.Random) -> bytes:
 
 
 class LargeTags(Builder):
-    """A case in which the tags of an entry and of a certificate have too many nodes, or nearly."""
+    """Builds a case in which the tags of an entry and of a certificate have too many nodes, or nearly."""
 
     def __init__(self, rng: random.Random) -> None:
         super().__init__(rng)
@@ -67,7 +67,7 @@ class LargeTags(Builder):
 
 
 class GrowingTags(LargeTags):
-    """A case in which the sets of an entry and a certificate leave some 10,000 strings. Times the nodes of the next tag that is about a million."""
+    """Builds a case in which the sets of an entry and a certificate leave some 10,000 strings. Times the next tag's nodes that is about a million."""
 
     def __init__(self, rng: random.Random) -> None:
         super().__init__(rng)

@@ -122,7 +122,7 @@ def to_guard_oddly(question: GuardQuestion, oddity: str) -> Maker:
 
 
 def makers_of_texts() -> Iterator[Maker]:
-    """Makers of texts for some command: each snippet alone, in a list, and in braces."""
+    """Makers of texts for some command: each snippet, and lists that open too deep or nearly, alone, in a list, and in braces."""
     for snippet in (*SNIPPETS, (DEEPEST + 1) * b"(", DEEPEST * b"("):
         yield to_some_command(snippet)
         yield to_some_command(b"(a " + snippet + b")")

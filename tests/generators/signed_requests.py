@@ -67,7 +67,7 @@ def ed25519(private: Ed25519PrivateKey) -> Key:
 
 
 def ecdsa(private: ec.EllipticCurvePrivateKey, bits: int, digest: SHA256 | SHA384) -> Key:
-    """The `Key` of a private key of ECDSA on the curve NIST P-`bits`. It hashes by `digest`. Its signature is r and s side by side (RFC 9421)."""
+    """The `Key` of a private key of ECDSA on NIST P-`bits`. It hashes by `digest`, whatever `alg` says. A signature is r and s side by side."""
     def sign(message: bytes) -> bytes:
         """The signature of a message: its two numbers, each in as many octets as the curve has."""
         return b"".join(number.to_bytes(bits // 8, "big") for number in decode_dss_signature(private.sign(message, ec.ECDSA(digest))))
@@ -203,7 +203,7 @@ WITH_URI = Request(components=("@method", "@authority", "@target-uri", KEY))
 
 
 def valid_requests() -> None:
-    """Requests that are valid."""
+    """Requests that are valid, some of them changed behind the signature in what does not count."""
     more = [f"x-{number}" for number in range(27)]  # (with the 5 of PLAIN these are 32 components, as many as are allowed)
     for name, request in {
         "Ed25519": GET, "ECDSA": Request(key=P256), "ECDSA with P-384": Request(key=P384), "RSA": Request(key=RSA), "target-uri": WITH_URI,
@@ -265,7 +265,7 @@ def changed_requests() -> None:
 
 
 def changed_bodies() -> None:
-    """Bodies and digests that are changed."""
+    """Bodies and digests that are changed, missing or not those of the profile, and beside them one request that is valid."""
     digest_of_other = [digest(BODY + "!"), ("Content-Length", "18")]
     row("another body", "other-digest", replace(POST, body='{"hello": "wurld"}'), signed(POST))
     row("no body any more", "other-digest", replace(POST, body=""), signed(POST))
@@ -292,7 +292,7 @@ def changed_bodies() -> None:
 
 
 def changed_certificates() -> None:
-    """Certificates that a client leaves at the service by PUT, changed."""
+    """Certificates that a client leaves at the service: changed, left in another way, or sent again."""
     row("other certificates left", "other-digest", replace(LEAVE, body=CHAIN[:-2] + "=}"), signed(LEAVE))
     row("no certificates left", "other-digest", replace(LEAVE, body=""), signed(LEAVE))
     row("other certificates left, with their digest", "invalid-signature", replace(LEAVE, fields=[digest("(sequence)")], body="(sequence)"),
@@ -309,7 +309,7 @@ def changed_certificates() -> None:
 
 
 def changed_fields() -> None:
-    """Chains and covered fields that are changed, put in, doubled or taken away."""
+    """Chains and covered fields that are changed, put in, doubled or taken away, or have octets that no field may have."""
     row("another chain", "invalid-signature", replace(CHAINED, fields=[("X-Spki-Sequence", "{KDE6YSk=}")]), signed(CHAINED))
     row("a chain taken away", "absent-field", replace(CHAINED, fields=[]), signed(CHAINED))
     row("a chain put in", "uncovered-field", replace(CHAINED, components=PLAIN))
@@ -328,7 +328,7 @@ def changed_fields() -> None:
 
 
 def changed_inputs() -> None:
-    """`Signature-Input` and `Signature` that are changed, or that are not those of the profile."""
+    """`Signature-Input` and `Signature` that are missing, changed or not those of the profile."""
     fields = signed(GET)
     text, valid_signature = (value for _, value in fields)  # (`text` is Signature-Input of GET, which the rows change)
     bare = text.removeprefix("spki=")
@@ -371,7 +371,7 @@ def changed_inputs() -> None:
 
 
 def changed_components() -> None:
-    """Components of a signature that are left out, come twice, or are not those of the profile, and beside them some that are valid."""
+    """Components of a signature that are left out, come twice, or are not those of the profile, and beside them one request that is valid."""
     for name in PLAIN:
         row(f"{name} left out", "missing-component", Request(components=tuple(other for other in PLAIN if other != name)))
     row("no components", "missing-component", Request(components=()))
@@ -379,16 +379,14 @@ def changed_components() -> None:
     row("a component twice", "component-twice", Request(components=(*PLAIN, "@path")))
     for name in ("@status", "@scheme", "@request-target"):
         row(f"the component {name}", "unknown-component", Request(components=(*PLAIN, name)))
-    param = parameters_of(GET).replace('"@query"', '"@query";name="a"')
-    row("the component @query-param", "unknown-component", GET, signed(Request(parameters=param)))
     (_, text), signature = signed(GET)
     for name, component in {"a component with a parameter": '"@path";req', "a component in capitals": '"@PATH"', "an empty component": '""',
-                            "the component signature": '"signature"'}.items():
+                            "the component signature": '"signature"', "the component @query-param": '"@query-param";name="a"'}.items():
         row(name, "unknown-component", GET, [("Signature-Input", text.replace('"@path"', component)), signature])
 
 
 def changed_parameters() -> None:
-    """Parameters that are changed, or that are not those of the profile."""
+    """Parameters that are left out, come twice or are not those of the profile or of the key, and requests outside their window."""
     for name in ("created", "expires", "nonce", "keyid", "alg", "tag"):
         parameters = parameters_of(GET).split(";")
         others = [parameter for parameter in parameters if not parameter.startswith(name)]
@@ -431,7 +429,7 @@ def changed_parameters() -> None:
 
 
 def changed_keys() -> None:
-    """The field with the key that is changed, or that has none."""
+    """The field with the key: missing, twice, not covered, or with a value that is no key of the profile."""
     alice, mallory = in_braces(ALICE.text), in_braces(MALLORY.text)
     row("no key", "absent-field", Request(keys=()), signed(GET))
     row("a key twice", "repeated-field", Request(keys=(alice, alice)))
@@ -461,7 +459,7 @@ def changed_keys() -> None:
 
 
 def other_keys() -> None:
-    """Keys other than that of the signature, and keys of odd sizes."""
+    """Keys, or the hash of one, other than that of the signature, a point of small order, and keys of odd sizes."""
     (_, signature_input), (_, signature) = signed(GET)
     mallory = in_braces(MALLORY.text)
     small = b"(10:public-key(3:ecc(5:curve7:Ed25519)(5:flags5:eddsa)(1:q32:%s)))" % bytes(32)

@@ -77,8 +77,8 @@ def advanced(value: Value, rng: random.Random, wild: float) -> bytes:
 
 
 def string(octets: bytes, rng: random.Random, wild: float) -> bytes:
-    """A string in one of the ways of advanced form: a token, hexadecimal digits, base64, quotes, or its length, `:` and its octets. `wild` is the
-    chance that a way is drawn. Else it is a token if it can be one, or has its length."""
+    """A string in one of the ways of advanced form: a token, hexadecimal digits, base64 or quotes, these by chance behind the length, or its length,
+    `:` and its octets. `wild` is the chance that a way is drawn. Else it is a token if it can be one, or has its length."""
     if rng.random() >= wild:
         if TOKEN.fullmatch(octets):
             return octets

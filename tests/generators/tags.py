@@ -19,7 +19,7 @@ def request(rng: random.Random, depth: int = 2) -> Value:
 
 
 def tag_for(allowed: Value, rng: random.Random, depth: int = 3) -> Value:
-    """A written tag that contains the request `allowed`, or nearly. Below `depth` lists and sets it is `(*)`, or has what is there in the request."""
+    """A written tag that mostly contains the request `allowed`. Below `depth` lists and sets it is `(*)`, or has what is there in the request."""
     kind = rng.random()
     if kind < 0.06 or depth == 0:
         return STAR if rng.random() < 0.5 else allowed
@@ -50,7 +50,7 @@ def near(body: bytes, rng: random.Random) -> bytes:
 
 
 def range_for(body: bytes, rng: random.Random) -> Value:
-    """A range that contains a string, or nearly. A string of 8 octets may be a time, one of 19 a date."""
+    """A range that often contains a string. Its ordering mostly fits: a string of 8 octets may be a time, one of 19 a date."""
     if rng.random() < 0.7:
         fitting = b"time" if len(body) == 8 else b"date" if len(body) == 19 else b"alpha"
         ordering = fitting if rng.random() < 0.6 else b"alpha"
@@ -95,7 +95,7 @@ def pair(rng: random.Random) -> tuple[Value, Value]:
 
 
 def two_sets(rng: random.Random) -> tuple[Value, Value]:
-    """Two written sets with tags for the same requests, in some order each."""
+    """Two written sets. Each has, in some order, the same requests or tags for them, and by chance one more tag of any kind."""
     requests = [request(rng, depth=1) for _ in range(rng.choice((2, 2, 3, 3, 4, 12)))]
     sets = []
     for _ in range(2):
@@ -107,7 +107,7 @@ def two_sets(rng: random.Random) -> tuple[Value, Value]:
 
 
 def range_or_prefix_for(body: bytes, rng: random.Random) -> Value:
-    """A range or a prefix that contains a string, or nearly."""
+    """A range that often contains a string, or a prefix: the string, one near it, or any other."""
     if rng.random() < 0.7:
         return range_for(body, rng)
     return (Atom(b"*"), Atom(b"prefix"), Atom(rng.choice((near(body, rng), rng.choice(STRINGS)))))
@@ -124,7 +124,7 @@ def changed_request(old: Value, rng: random.Random) -> Value:
 
 
 def request_near(tag: Tag, rng: random.Random) -> Value:
-    """A request that a tag contains, or nearly; any for `(* set)`. If the head of a list comes out as `*`, it is that string alone."""
+    """A request that a tag often contains; any for `(* set)`. If the head of a list comes out as `*`, it is that string alone."""
     if isinstance(tag, Text):
         return Atom(near(tag.body, rng))
     if isinstance(tag, AnyOf) and tag.members:

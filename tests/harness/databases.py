@@ -122,7 +122,7 @@ class Server:
 
     def replica(self, at: networks.Node | None = None, mib: int = 0, **settings: str) -> Server:
         """A replica of this server, which is not started yet: at the node `at`, if any, on a disk of `mib` MiB, if that is not 0. It has the settings
-        of this server, except for those that are given."""
+        of this server, except for its address, if it has a node, and those that are given."""
         replica = Server(at, mib, **{**self.settings, **settings})
         replica.run("pg_basebackup", "-d", replica.source(self), "-D", replica.data, "-R", "-X", "stream", "-c", "fast", "--no-sync")
         return replica

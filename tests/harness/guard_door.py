@@ -143,7 +143,7 @@ class GuardDoor:
         return f"the guard lists {len(listed)} signatures, or others than the model"
 
     def fault_with_small_buffer(self, question: GuardQuestion) -> str | None:
-        """What is wrong where a call's buffer has one octet less than its line or answer, None if nothing is."""
+        """What is wrong where a call's buffer has one octet less than its line or answer, None if nothing is. No call may be misuse: it has none."""
         handle, asked = c_void_p(), c_void_p()
         try:
             is_right = self.refuses_small_buffers(question, handle, asked)

@@ -111,7 +111,7 @@ def after_prompts(block: str) -> Iterator[str]:
 
 
 def indented_blocks(text: str) -> Iterator[str]:
-    """The indented blocks of a page in which some line is a command. A block below the name of a language, as `**C.**`, is a snippet and left out."""
+    """The indented blocks of a page in which some line is a command. An empty line ends a block. One just below `**C.**` and so on is left out."""
     parts = re.split(r"\n{2,}", FENCED.sub("", text))
     for above, block in zip(parts, parts[1:]):
         lines = textwrap.dedent(block).splitlines()

@@ -225,8 +225,8 @@ def as_they_end(started: dict[Future, str]) -> Iterator[Future]:
 
 
 def run_all(tests: list[unittest.TestCase], jobs: int, stops_early: bool, command: str) -> list[Outcome]:
-    """Runs tests in `jobs` processes, and prints their outcomes. Returns one for each part that began. `stops_early`: none begins after the first
-    failure. `command`, with the name of a test behind it, runs this test alone. What stands for a whole module has its part in this process."""
+    """Runs tests in `jobs` processes, and prints their outcomes. Returns one for each part that began. `stops_early`: the first failure cancels
+    what waits. `command`, with the name of a test behind it, runs this test alone. What stands for a whole module has its part in this process."""
     parts = parts_of(tests)
     report = Report(parts, command)
     for name, part in parts:

@@ -105,7 +105,7 @@ class Site:
         return False
 
     def command(self) -> list[str]:
-        """The command that starts the web server."""
+        """The command that starts the web server. (Only its maker may read the site's folder: so where that is root, nginx stays root.)"""
         as_user = "user root;" if os.getuid() == 0 else ""
         return ["nginx", "-p", self.room, "-c", "etc/loopback.conf", "-e", "log/error.log", "-g", as_user]
 

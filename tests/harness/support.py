@@ -111,7 +111,7 @@ def tables_here():
 
 def loaded(path):
     """Loads the script at a path, also one without a suffix, as a module. The module's name is not `__main__`, so its main does not run."""
-    sys.dont_write_bytecode = True
+    sys.dont_write_bytecode = True  # (so that no `__pycache__` is left beside a script)
     name = f"loaded {os.path.basename(path)}"
     loader = importlib.machinery.SourceFileLoader(name, path)
     module = importlib.util.module_from_spec(importlib.util.spec_from_loader(name, loader))

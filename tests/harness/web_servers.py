@@ -68,8 +68,8 @@ class ServerSite(served.Site):
         self.restart_replacing([(name, place, lines.replace("{port}", str(port))) for name, place, lines in self.on_port])
 
     def restart_replacing(self, changes: list[tuple[str, str, str]]) -> None:
-        """Starts the server again, with the files of its example but for these changes: a file, a text of it, and the text in its place. `{room}` in
-        both texts is the folder of the site. Raises AssertionError if a file does not have its text."""
+        """Starts the server again, with the files of its example but for these changes: a file, a text of it, and what replaces its first place.
+        `{room}` in both texts is the folder of the site. Raises AssertionError if a file does not have its text."""
         for name, text in self.originals.items():
             self.write(f"etc/{name}", text)
         self.originals = {name: self.text(f"etc/{name}") for name, _, _ in changes}

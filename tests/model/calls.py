@@ -45,7 +45,7 @@ def misused(row: str) -> Answer:
 
 
 def call(number: int | None, texts: tuple[Pointer, ...], buffer: Pointer) -> Answer:
-    """What `spki_answer` answers to a command's number and a text or, if it is None, `spki_check_accepted` to two texts: empty, null or too long."""
+    """What `spki_answer` answers to a number and a text or, if it is None, `spki_check_accepted` to two texts: each empty, null or too long."""
     if number is not None and number >= len(COMMANDS):
         return misused("no command has this number")
     for is_null, length in texts:

@@ -225,7 +225,7 @@ def has_set(tag: Tag) -> bool:
 
 
 def weight(tag: Tag) -> int:
-    """The nodes of a tag except the heads of lists, plus the octets of all its strings: a part of `node_cost`."""
+    """The nodes of a tag except the heads of lists, plus the octets of its strings, prefixes and limits: a part of `node_cost`."""
     if isinstance(tag, Plain):
         return sum(map(weight, tag.members))  # (of a list and its head one node counts)
     if isinstance(tag, AnyOf):

@@ -293,7 +293,7 @@ static void refused_questions(void)
     spki_guard_close(guard);
 }
 
-/* More than 64 strings or 65,536 octets, the usual limits, are refused as `TooManyWords` and `TooLong`. */
+/* By the usual limits more than 64 strings are refused, and more than 65,536 octets of all texts of a question: here the key alone has so many. */
 static void usual_limits(void)
 {
     static char long_key[65536];
@@ -486,7 +486,7 @@ static void close_guard_beside(size_t count)
 /* The last second of the year 9999: no later moment can be asked. */
 #define LAST_SECOND INT64_C(253402300799)
 
-/* A decision that is kept holds until the first of its windows ends, and no second longer. */
+/* A yes that is kept holds from 1970 until its window ends, and no second longer, or without end if it has no window. A no does not hold. */
 static void kept_decisions(void)
 {
     static const struct { const char *list; int64_t until; } rows[] = {

@@ -136,7 +136,7 @@ static void wrong_sizes(void)
     }
 }
 
-/* Numbers that have no meaning must be misuse: commands, policies, places of signatures (`asked` has none), lengths of paths that are too long. */
+/* Numbers that have no meaning must be misuse: commands, policies, places of signatures (`asked` has none), lengths of too long or null paths. */
 static void wrong_numbers(void)
 {
     static const size_t path[1];

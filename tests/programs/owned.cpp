@@ -119,7 +119,7 @@ static int equal_signatures()
     return 0;
 }
 
-// A decision holds until the first of its windows ends, and no second longer. The clock counts nanoseconds, so it has no time after 2262.
+// A yes holds from 1970 until its window ends, and no second longer. A no never holds. The clock counts nanoseconds, so it has no time after 2262.
 static int kept_decisions()
 {
     using std::chrono::seconds;

@@ -25,11 +25,11 @@ static void free_strings(struct spki_text *strings, size_t count)
 }
 
 /* Writes the line for a request of `count` fields: `head` has its strings before them, and `of_fields` the name and the value of each. If the request
- * has a time before, the same request must be valid at that earlier time. `fields` has room for one more, so that it is never without octets. */
+ * has a time before, it must be valid then too. A valid one must be refused when it comes again, after another nonce of 1,000 seconds later. */
 static void answer(const struct spki_text *head, struct spki_text *of_fields, size_t count)
 {
     const struct spki_text names[] = {SPKI_LITERAL("example.com")};
-    struct http_field *fields = malloc((count + 1) * sizeof *fields);
+    struct http_field *fields = malloc((count + 1) * sizeof *fields); /* (one more, so that it is never without octets) */
     struct http_service service = {names, 1, 1792000000, http_nonces_take, http_nonces_open(4)}; /* (its start as in the table; room for 4 nonces) */
     struct http_request request = {head[METHOD], head[AUTHORITY], head[TARGET], fields, count, head[BODY].length > 0};
     struct http_proof proof = {.digest_length = 0};

@@ -190,7 +190,7 @@ def attacks_on_left_certificates() -> Iterator[Plain]:
     for path in (f"{LEAVING}/", "/.well-known/spki%2dchain", f"/web/..{LEAVING}", f"/{LEAVING}", "/.well-known/SPKI-chain", f"{LEAVING}/../..{WEB}"):
         yield f"a question at {path}", None, request(path, *claims, method="PUT")
         yield f"a question by GET at {path}", None, request(path, *claims)
-    for what, *lines in [("without a signature", ""), ("with half a signature", "Signature: spki=:AAAA:"),
+    for what, *lines in [("without a signature",), ("with half a signature", "Signature: spki=:AAAA:"),
                          ("with a key of TLS in a header", "X-Client-Cert: {ann}"), ("with a method that overrides", "X-HTTP-Method-Override: GET")]:
         yield f"certificates that are left {what}", "ben", request(LEAVING, *lines, method="PUT", body="(sequence)")
     yield "certificates that are left with a query", "ben", request(f"{LEAVING}?GET={WEB}", *claims, method="PUT", body="(sequence)")
@@ -206,7 +206,7 @@ def with_statuses(attacks: Iterator[Plain], must: set[int]) -> Iterator[Attack]:
 
 
 def all_attacks() -> Iterator[Attack]:
-    """All attacks. One by a path with `..` or other than plain characters, or at LEAVING, the server may also refuse by itself, or find nothing."""
+    """All attacks. The server may refuse those with doubled parts by itself too, and refuse or not find those at LEAVING or by a path not plain."""
     yield from with_statuses(attacks_by_headers(), DENIED)
     yield from with_statuses(attacks_by_doubled_parts(), MALFORMED)
     yield from with_statuses(attacks_by_methods(), DENIED)

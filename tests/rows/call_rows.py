@@ -52,7 +52,8 @@ class CallRow(NamedTuple):
 
 
 def rows_of(table: str) -> Iterator[CallRow]:
-    """The rows of a table in the folder `calls/`, by the table's name. A row with the names of several calls becomes one for each of them."""
+    """The rows of a table in the folder `calls/`, by its name: of several calls one for each. Raises ValueError for a line of one field, and what
+    `unescaped` raises."""
     with open(os.path.join(CALLS, table), "rb") as lines:
         for number, line in enumerate(lines, 1):
             line = line.rstrip(b"\n")
@@ -110,7 +111,7 @@ def number(value: int) -> bytes:
 
 
 def failing_ends() -> Iterator[CallRow]:
-    """Calls of `run` on the first run, one octet a call, in which the reader or the writer fails after `room` octets, or the writer takes no more."""
+    """Calls of `run` on the first run, in which the reader or the writer, at an octet a call, fails after `room` octets, or the writer is full."""
     # (the texts and the answers are those that the head of this file describes for `run`; 3 is the status where reading or writing fails)
     text = first_run()
     for room in range(len(text) + 1):

@@ -150,14 +150,14 @@ def answer_of(wish: str, parts: list[bytes], rows: bytes) -> tuple[guard.Answer,
 
 
 def in_debug(wish: str, answer: bytes) -> bytes:
-    """The lines of an answer as `test_one_call` writes the result: as a value of Rattle, such as `Yes(1)`, or for `reduce` in canonical form."""
+    """The lines of an answer as `test_one_call` writes the result: as a value of Rattle, such as `Yes(1)`; for `reduce` each authorization in
+    canonical form, or the item at which its chain stops and the cause; and where evidence fails, its item and the cause."""
     if wish == "decide":
         return b"No" if answer == b"no\n" else b"Yes(%s)" % answer.split()[2]  # (`yes entry N`)
     if answer.startswith(b"item "):  # (this item fails a test of evidence)
         return answer[len(b"item "):-1]
     lines = [ENTRY.sub(b"", line, count=1) for line in answer.split(b"\n")[:-1] if line != b"no entries"]
     if wish == "reduce":
-        # (each line is an authorization, `(five ..)`, or the item at which the chain stops)
         return b"".join((written(forms.read(line)) if line.startswith(b"(") else line.removeprefix(b"item ")) + b"\n" for line in lines)
     return b"[%s]" % b", ".join(reason(line) for line in lines)
 

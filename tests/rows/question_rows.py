@@ -10,7 +10,7 @@ from rows.chains import cert, entry, octets_of, row, signed
 from rows.guard_rows import KA, KB, KC, NOW, canonical, case, parts_of, rows_of
 
 A = canonical(KA)
-MANY = "(acl (entry (public-key (test a)) (tag (*))))"
+FOR_A = "(acl (entry (public-key (test a)) (tag (*))))"
 NO_CERTIFICATES = b"(8:sequence)"
 TEXT_OF = {
     "Shape": "not of a form that is read", "UnknownVersion": "unknown version", "KeyUris": "a key with uris", "BadDate": "not a date",
@@ -21,15 +21,15 @@ REFUSED = [
     (("(acl x)", "(sequence)", KA, "a", NOW), "Acl", 1, "Shape"),
     (("(acl (entry (public-key (test a)) (tag a)) (entry (public-key (test a)) (tag ())))", "(sequence)", KA, "a", NOW), "Acl", 2, "Tag(EmptyList)"),
     (('(acl (version "1"))', "(sequence)", KA, "a", NOW), "Acl", 0, "UnknownVersion"),
-    ((MANY, "(sequence (signature))", "x", "(*)", "x"), "Sequence", 1, "StraySignature"),
-    ((MANY, "(sequence (public-key (test b)) (do now))", "x", "(*)", "x"), "Sequence", 2, "UnknownOp"),
-    ((MANY, "(sequence)", "x", "(*)", "x"), "Key", 0, "Shape"),
-    ((MANY, "(sequence)", "(public-key (test a) (uri x))", "(*)", "x"), "Key", 0, "KeyUris"),
-    ((MANY, "(sequence)", KA, "(*)", "x"), "Request", None, "StarInRequest"),
-    ((MANY, "(sequence)", KA, "()", "x"), "Request", None, "EmptyList"),
-    ((MANY, "(sequence)", KA, "(a [b]c)", "x"), "Request", None, "Hint"),
-    ((MANY, "(sequence)", KA, "a", "x"), "At", 0, "BadDate"),
-    ((MANY, "(sequence)", KA, "a", '"2024-13-01_00:00:00"'), "At", 0, "BadDate")]
+    ((FOR_A, "(sequence (signature))", "x", "(*)", "x"), "Sequence", 1, "StraySignature"),
+    ((FOR_A, "(sequence (public-key (test b)) (do now))", "x", "(*)", "x"), "Sequence", 2, "UnknownOp"),
+    ((FOR_A, "(sequence)", "x", "(*)", "x"), "Key", 0, "Shape"),
+    ((FOR_A, "(sequence)", "(public-key (test a) (uri x))", "(*)", "x"), "Key", 0, "KeyUris"),
+    ((FOR_A, "(sequence)", KA, "(*)", "x"), "Request", None, "StarInRequest"),
+    ((FOR_A, "(sequence)", KA, "()", "x"), "Request", None, "EmptyList"),
+    ((FOR_A, "(sequence)", KA, "(a [b]c)", "x"), "Request", None, "Hint"),
+    ((FOR_A, "(sequence)", KA, "a", "x"), "At", 0, "BadDate"),
+    ((FOR_A, "(sequence)", KA, "a", '"2024-13-01_00:00:00"'), "At", 0, "BadDate")]
 PART = {"Acl": "access list", "Sequence": "sequence", "Key": "key", "Request": "request", "At": "moment"}
 
 

@@ -54,7 +54,7 @@ def parts_of(language: str) -> tuple[str, list[Row]]:
 
 
 def program_of(shared: str, rows: list[Row]) -> tuple[str, dict[int, Row]]:
-    """The text of a program that does these rows, all of one language, and for the number, from 1, of each line in a row's function, that row."""
+    """The program that does these rows, one or more of a language, and for the number, from 1, of each line in a row's function, that row."""
     text, lines = shared + "\n", {}
     for row in rows:
         first = text.count("\n") + 1
@@ -65,8 +65,8 @@ def program_of(shared: str, rows: list[Row]) -> tuple[str, dict[int, Row]]:
 
 
 def faults_in(output: str, path: str, lines: dict[int, Row]) -> Iterator[tuple[Row, str]]:
-    """Each row whose lines a compiler names in its output, as `FILE:LINE`, and what it says of it: the output from the name before this one up to
-    the next. `path` is that of the source, and `lines` has the row of each line, as `program_of` returns it."""
+    """The row of each line that a compiler names in its output, as `FILE:LINE`, and what it says of it: the output from the name before this one up
+    to the next. `path` is that of the source, and `lines` has the row of each line, as `program_of` returns it."""
     names = list(re.finditer(rf"{re.escape(os.path.basename(path))}:(\d+)", output))
     ends = [*(name.start() for name in names[1:]), len(output)]
     for place, (name, end) in enumerate(zip(names, ends)):
