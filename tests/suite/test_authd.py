@@ -31,7 +31,7 @@ SECONDS = 600
 
 
 def listens(path: str) -> bool:
-    """Whether a process listens at the socket with this path."""
+    """Whether a client can connect to the socket with this path: not if nobody listens there, or if there is no socket."""
     with socket.socket(socket.AF_UNIX) as client:
         return client.connect_ex(path) == 0
 
@@ -94,7 +94,7 @@ class OfDaemon(test_go.OfGo):
         self.assertEqual(daemon.message()["event"], "started")
 
     def headers(self, target: str = "/web/a") -> dict[str, str]:
-        """The fields that a web server sends to the daemon where Alice asks for the path `target`."""
+        """The fields that a web server sends to the daemon where Alice asks by GET for `target`, a path and perhaps a query."""
         return {"X-Original-Method": "GET", "X-Original-URI": target, "X-Client-Cert": urllib.parse.quote(self.alice.certificate)}
 
     def ask_often(self, path: str, times: int, headers: dict[str, str], target: str = "/") -> list[int]:
@@ -453,8 +453,8 @@ class BehindNginx(OfDaemon):
 
     @contextlib.contextmanager
     def impostor(self, room: str, at: str) -> Iterator[list[bytes]]:
-        """A context with a server at `at`, a host and a port. It shows another certificate than the daemon's, answers 200 to all, and adds what it
-        receives to the list. (`web_servers.Impostor` does not do: it chooses its port, and notes only the secret of a request.)"""
+        """A context with a server at `at`, a host and a port. It shows the certificate `other` in `room`, not the daemon's, answers 200 to all, and
+        adds what it receives to the list. (`web_servers.Impostor` does not do: it chooses its port, and notes only the secret of a request.)"""
         context = ssl.SSLContext(ssl.PROTOCOL_TLS_SERVER)
         context.load_cert_chain(os.path.join(room, "other"), os.path.join(room, "other.key"))
         received: list[bytes] = []

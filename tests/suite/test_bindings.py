@@ -133,7 +133,7 @@ def decided_by_model(text):
 
 
 def faults_of_answers(asked, answers):
-    """A text with each wrong answer to the questions, empty if all are right. `asked` are of type Asked, and `answers` their lines as octets."""
+    """A text with each wrong answer to the questions `asked`, or with both numbers if they differ. Empty if all are right. `answers` are octets."""
     if len(answers) != len(asked):
         return f"{len(answers)} answers to {len(asked)} questions"
     faults = [(each, answer) for each, answer in zip(asked, answers) if answer != each.wanted]

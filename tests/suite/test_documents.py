@@ -41,7 +41,7 @@ def names_here():
 
 
 def anchor(heading):
-    """The anchor of a heading, as pages on the web have it: in small letters, with hyphens for spaces, without other punctuation."""
+    """The anchor of a heading, as pages on the web have it: in small letters, with hyphens for spaces, without punctuation but `-` and `_`."""
     bare = re.sub(r"[^\w\- ]", "", heading.replace("`", "")).strip().lower()
     return bare.replace(" ", "-")
 
@@ -108,7 +108,7 @@ def below_crates(part: str) -> list[str]:
 
 
 def missing_definitions() -> Iterator[str]:
-    """Yields `FILES: NAME` for each definition that a row of docs/DEFINITIONS.md names and its files lack, in each crate of the section's head."""
+    """Yields `FILES: NAME` for each definition that a row of docs/DEFINITIONS.md names and its files lack in all crates of the section's head."""
     for head, rows in claims.SECTION.findall(text_of("docs/DEFINITIONS.md")):
         for files, names in DEFINED.findall(rows):
             paths = [f"crates/{crate}/specs/{file}.antt" for crate in re.findall(r"`(\w+)`", head) for file in files.split(", ")]

@@ -409,7 +409,7 @@ class OfLibrary(TestOfEnding):
     """The digests are those of what the library lists to be verified, which the daemon looks up."""
 
     def test_digests_of_the_messages_of_the_library(self) -> None:
-        """`program` prints the SHA-256 of each message that the library lists for the sequence in the file of its first argument."""
+        """`program` prints the SHA-256 of each message that the library lists for the sequence in its first file, asked by the key in its second."""
         program = ("import hashlib, sys, spki; guard = spki.Guard(b'(acl)');"
                    "key = spki.ProvenKey.assume(spki.canonical(open(sys.argv[2], 'rb').read()));"
                    "asked = guard.ask(spki.Question(open(sys.argv[1], 'rb').read(), key, words=(b'files',), moment=b'\"2026-03-01_12:00:00\"'));"
