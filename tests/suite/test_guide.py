@@ -116,7 +116,7 @@ def indented(page):
     it: what is indented behind that is a block of its own, and the first one is then the paragraph above it."""
     parts = re.split(r"\n{2,}", FENCED.sub("", page))
     for above, block in zip(parts, parts[1:]):
-        if all(line.startswith("    ") for line in block.splitlines()):
+        if block and all(line.startswith("    ") for line in block.splitlines()):
             yield above, textwrap.dedent(block)
 
 
