@@ -94,7 +94,7 @@ def words_of(request):
 
 
 def seconds_of(moment):
-    """The seconds since 1970 of a moment, as b"2024-01-01_00:00:00", zeros in front may lack. None if it is earlier, no date, or has second 60."""
+    """The seconds since 1970 of a moment, as b"2024-01-01_00:00:00", or with fewer zeros in it. None if it is earlier, no date, or has second 60."""
     try:
         date = datetime.strptime(moment.decode(), "%Y-%m-%d_%H:%M:%S")
         seconds = int(date.replace(tzinfo=timezone.utc).timestamp())
@@ -145,7 +145,7 @@ def faults_of_answers(asked, answers):
 
 
 def text_of_reasons(reasons):
-    """The lines of `explain`, without the last line feed, for reasons of the module: each an entry's number or None, an item's or None, and a word."""
+    """The lines of `explain`, without the last line feed, for reasons of the module: each an entry's number or None, an item's or None, a word."""
     lines = [" ".join(filter(None, (entry and f"entry {entry}", item and f"item {item}", word))) for entry, item, word in reasons]
     return "\n".join(lines or ["no entries"])
 
