@@ -116,7 +116,7 @@ class OfDaemon(test_go.OfGo):
 
 @needs.needs("openssl", "import cryptography")
 class Log(OfDaemon):
-    """A grant has its line in the log of grants, and nothing else is needed for an answer."""
+    """The logs: a grant has its line in the log of grants, and nothing else is needed for an answer; and a FIFO in the place of a file."""
 
     def test_each_grant_has_its_line(self) -> None:
         """THREADS threads ask for GRANTS grants. The log of grants gets as many lines, and standard output, which has denials, gets none."""
@@ -403,8 +403,8 @@ class BehindNginx(OfDaemon):
 
     @contextlib.contextmanager
     def nginx(self, room: str, at: str, scheme: str) -> Iterator[str]:
-        """A context with the path of the socket of an nginx that runs in the folder `room`. It asks the daemon at the address `at`, a host and a port
-        or `unix:PATH`, by `http` or `https` (`scheme`)."""
+        """A context with the path of the socket of an nginx that runs in the folder `room`, which has the daemon's certificate `crt`. It asks the
+        daemon at the address `at`, a host and a port or `unix:PATH`, by `http` or `https` (`scheme`)."""
         user = "user root;" if os.getuid() == 0 else ""  # (another user could not open the daemon's socket)
         certificate = urllib.parse.quote(self.alice.certificate)
         settings = {"room": room, "at": at, "scheme": scheme, "secret": SECRET, "certificate": certificate, "user": user}

@@ -145,7 +145,7 @@ def faults_of_answers(asked, answers):
 
 
 def text_of_reasons(reasons):
-    """The lines of `explain`, without the last line feed, for reasons of the module: each an entry's number or None, an item's or None, a word."""
+    """What `explain` writes for reasons (entry, item, word), without the last line feed. A number may be None. Without reasons it is `no entries`."""
     lines = [" ".join(filter(None, (entry and f"entry {entry}", item and f"item {item}", word))) for entry, item, word in reasons]
     return "\n".join(lines or ["no entries"])
 

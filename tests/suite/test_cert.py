@@ -125,7 +125,7 @@ class CommandTest(unittest.TestCase):
 
 
 class OfKeys(CommandTest):
-    """`spki-cert key`, which converts keys of OpenSSH and PEM to keys of SPKI, and makes new ones."""
+    """`spki-cert key`, which converts keys in other forms to keys of SPKI, and makes new ones; and how signatures are verified by keys."""
     @needs_ssh
     def test_keys_of_openssh_are_read_and_written(self):
         """The public, the private and the converted key give the same SPKI key. Back in OpenSSH, it has the first one's length and fingerprint."""

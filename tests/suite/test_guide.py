@@ -34,7 +34,7 @@ SHELLS = ("sh", "bash")
 
 
 def steps_of_block(text):
-    """Yields the steps of a block of commands: for each the word `command`, the command, and what it should write."""
+    """Yields the steps of a block of commands: for each the word `command`, the command, and what it should write. Leaves out what is before."""
     for part in re.split(r"^\$ ", text, flags=re.MULTILINE)[1:]:
         first, *rest = part.splitlines()
         more = list(itertools.takewhile(lambda line: line.startswith("> "), rest))
