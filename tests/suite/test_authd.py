@@ -403,8 +403,8 @@ class BehindNginx(OfDaemon):
 
     @contextlib.contextmanager
     def nginx(self, room: str, at: str, scheme: str) -> Iterator[str]:
-        """A context with the path of the socket of an nginx that runs in the folder `room`, which has the daemon's certificate `crt`. It asks the
-        daemon at the address `at`, a host and a port or `unix:PATH`, by `http` or `https` (`scheme`)."""
+        """A context with the path of the socket of an nginx that runs in the folder `room`, which has a certificate in the file `crt`. It asks
+        the daemon at the address `at`, a host and a port or `unix:PATH`, by `http` or `https` (`scheme`)."""
         user = "user root;" if os.getuid() == 0 else ""  # (another user could not open the daemon's socket)
         certificate = urllib.parse.quote(self.alice.certificate)
         settings = {"room": room, "at": at, "scheme": scheme, "secret": SECRET, "certificate": certificate, "user": user}

@@ -79,7 +79,7 @@ def octets_in(path):
 
 @needs.needs("import cryptography")
 class CommandTest(unittest.TestCase):
-    """A test of `spki-cert` in an empty folder, `room`. `settings` is the environment without SSH_AUTH_SOCK and SPKI_LABELS."""
+    """A test of `spki-cert` in an empty folder, `room`. `settings` is the environment without the user's SSH_AUTH_SOCK and SPKI_LABELS."""
 
     def setUp(self):
         self.room = room_for(self)
