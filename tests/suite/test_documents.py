@@ -80,7 +80,7 @@ def dead_paths(page, names):
     written = {name for _, name, _ in FENCED.findall(text_of(page)) if name}
     for word in possible_paths(page):
         word = re.sub(r"^(?:\.\./|\./)+", "", word.rstrip(".,;:)"))
-        if not PATH.match(word) or "out/" in f"{word}/" or PLACEHOLDER.search(word) or word in MADE_ELSEWHERE | written:
+        if not PATH.match(word) or re.search(r"\bout/", f"{word}/") or PLACEHOLDER.search(word) or word in MADE_ELSEWHERE | written:
             continue
         # (a word with a `/` is a path if it begins with the name of a folder or a file that is here)
         first, is_bare_file = word.split("/")[0], "/" not in word and word.endswith(KINDS)
