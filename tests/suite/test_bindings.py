@@ -178,8 +178,8 @@ def listed(strings):
 
 
 def framed(asked):
-    """A question in the form that the examples `asked` in Rust and Go read: its fields in their order, but not `name` and `wanted`, as LENGTH:OCTETS
-    or as lists of these. A word before the request, and one before the moment, says in which of two ways it is given."""
+    """A question in the form that the examples `asked` in Rust and Go read: its fields but `name` and `wanted`, in the order that they say, each as
+    LENGTH:OCTETS or as a list of these. A word before the request, and one before the moment, says in which of two ways it is given."""
     is_text, is_date = isinstance(asked.request, bytes), isinstance(asked.moment, bytes)
     fields = [asked.command, "strict" if asked.is_strict else "open", asked.limits, asked.access_list, asked.sequence, asked.key]
     request = string("text" if is_text else "words") + listed([asked.request] if is_text else asked.request)

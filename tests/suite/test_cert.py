@@ -116,7 +116,7 @@ class CommandTest(unittest.TestCase):
         run_checked("openssl", "genpkey", "-algorithm", *test_go.KINDS[kind], *encryption, "-out", self.at(name))
 
     def verify(self, name):
-        """Verifies by `cryptography` that each certificate of the sequence in a file is signed by its issuer. Returns the certificates."""
+        """Verifies by `cryptography` the signatures of the certificates of the sequence in a file. Returns those certificates that have one."""
         sequence = value_in(octets_in(self.at(name))).value
         certificates = certificates_in(sequence)
         for each in certificates:
