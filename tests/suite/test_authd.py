@@ -31,7 +31,7 @@ SECONDS = 600
 
 
 def listens(path: str) -> bool:
-    """Whether a process listens at the socket with this path."""
+    """Whether a client can connect to the socket with this path: not if nobody listens there, or if there is no socket."""
     with socket.socket(socket.AF_UNIX) as client:
         return client.connect_ex(path) == 0
 
@@ -94,7 +94,7 @@ class OfDaemon(test_go.OfGo):
         self.assertEqual(daemon.message()["event"], "started")
 
     def headers(self, target: str = "/web/a") -> dict[str, str]:
-        """The fields that a web server sends to the daemon where Alice asks for the path `target`."""
+        """The fields that a web server sends to the daemon where Alice asks by GET for `target`, a path and perhaps a query."""
         return {"X-Original-Method": "GET", "X-Original-URI": target, "X-Client-Cert": urllib.parse.quote(self.alice.certificate)}
 
     def ask_often(self, path: str, times: int, headers: dict[str, str], target: str = "/") -> list[int]:
@@ -116,7 +116,7 @@ class OfDaemon(test_go.OfGo):
 
 @needs.needs("openssl", "import cryptography")
 class Log(OfDaemon):
-    """A grant has its line in the log of grants, and nothing else is needed for an answer."""
+    """The logs: a grant has its line in the log of grants, and nothing else is needed for an answer; and a FIFO in the place of a file."""
 
     def test_each_grant_has_its_line(self) -> None:
         """THREADS threads ask for GRANTS grants. The log of grants gets as many lines, and standard output, which has denials, gets none."""
@@ -403,8 +403,8 @@ class BehindNginx(OfDaemon):
 
     @contextlib.contextmanager
     def nginx(self, room: str, at: str, scheme: str) -> Iterator[str]:
-        """A context with the path of the socket of an nginx that runs in the folder `room`. It asks the daemon at the address `at`, a host and a port
-        or `unix:PATH`, by `http` or `https` (`scheme`)."""
+        """A context with the path of the socket of an nginx that runs in the folder `room`, which has a certificate in the file `crt`. It asks
+        the daemon at the address `at`, a host and a port or `unix:PATH`, by `http` or `https` (`scheme`)."""
         user = "user root;" if os.getuid() == 0 else ""  # (another user could not open the daemon's socket)
         certificate = urllib.parse.quote(self.alice.certificate)
         settings = {"room": room, "at": at, "scheme": scheme, "secret": SECRET, "certificate": certificate, "user": user}
@@ -453,8 +453,8 @@ class BehindNginx(OfDaemon):
 
     @contextlib.contextmanager
     def impostor(self, room: str, at: str) -> Iterator[list[bytes]]:
-        """A context with a server at `at`, a host and a port. It shows another certificate than the daemon's, answers 200 to all, and adds what it
-        receives to the list. (`web_servers.Impostor` does not do: it chooses its port, and notes only the secret of a request.)"""
+        """A context with a server at `at`, a host and a port. It shows the certificate `other` in `room`, not the daemon's, answers 200 to all, and
+        adds what it receives to the list. (`web_servers.Impostor` does not do: it chooses its port, and notes only the secret of a request.)"""
         context = ssl.SSLContext(ssl.PROTOCOL_TLS_SERVER)
         context.load_cert_chain(os.path.join(room, "other"), os.path.join(room, "other.key"))
         received: list[bytes] = []

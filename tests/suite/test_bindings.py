@@ -86,15 +86,15 @@ def accepted_by(rows, sequence):
 
 
 def words_of(request):
-    """The strings by which a guard takes a request: one for a string. None for a list that has lists inside or has fewer than two strings: one string
-    alone is a request that is no list."""
+    """The strings by which a guard takes a request: one for a string. None if it has a display hint or a list inside, and for a list of fewer than
+    two strings: one string alone is a request that is no list."""
     if isinstance(request, bytes):
         return (request,)
     return tuple(request) if isinstance(request, list) and len(request) > 1 and all(isinstance(each, bytes) for each in request) else None
 
 
 def seconds_of(moment):
-    """The seconds since 1970 of a moment, such as b"2024-01-01_00:00:00". None if it is earlier, is no date, is in no calendar, or has second 60."""
+    """The seconds since 1970 of a moment, as b"2024-01-01_00:00:00", or with fewer zeros in it. None if it is earlier, no date, or has second 60."""
     try:
         date = datetime.strptime(moment.decode(), "%Y-%m-%d_%H:%M:%S")
         seconds = int(date.replace(tzinfo=timezone.utc).timestamp())
@@ -133,7 +133,7 @@ def decided_by_model(text):
 
 
 def faults_of_answers(asked, answers):
-    """A text with each wrong answer to the questions, empty if all are right. `asked` are of type Asked, and `answers` their lines as octets."""
+    """A text with each wrong answer to the questions `asked`, or with both numbers if they differ. Empty if all are right. `answers` are octets."""
     if len(answers) != len(asked):
         return f"{len(answers)} answers to {len(asked)} questions"
     faults = [(each, answer) for each, answer in zip(asked, answers) if answer != each.wanted]
@@ -145,8 +145,7 @@ def faults_of_answers(asked, answers):
 
 
 def text_of_reasons(reasons):
-    """The lines of `explain`, without the last line feed, for the reasons that the module gives. Each reason has the number of an entry or None, that
-    of an item or None, and a word."""
+    """What `explain` writes for reasons (entry, item, word), without the last line feed. A number may be None. Without reasons it is `no entries`."""
     lines = [" ".join(filter(None, (entry and f"entry {entry}", item and f"item {item}", word))) for entry, item, word in reasons]
     return "\n".join(lines or ["no entries"])
 
@@ -179,7 +178,8 @@ def listed(strings):
 
 
 def framed(asked):
-    """A question in the form that the examples `asked` in Rust and Go read: its fields in their order, as LENGTH:OCTETS or as lists of these."""
+    """A question in the form that the examples `asked` in Rust and Go read: its fields but `name` and `wanted`, in the order that they say, each as
+    LENGTH:OCTETS or as a list of these. A word before the request, and one before the moment, says in which of two ways it is given."""
     is_text, is_date = isinstance(asked.request, bytes), isinstance(asked.moment, bytes)
     fields = [asked.command, "strict" if asked.is_strict else "open", asked.limits, asked.access_list, asked.sequence, asked.key]
     request = string("text" if is_text else "words") + listed([asked.request] if is_text else asked.request)

@@ -37,7 +37,7 @@ class Bounds(unittest.TestCase):
             call = next(call for call in self.slowest.CALLS if call.what.startswith(named.words))
             listed = min(named.listed, call.listed if call.word == "intersect" else 4096)
             texts = self.slowest.sized(call, named.recipe, listed, named.asked)
-            self.assertLessEqual(len(texts.list_text()), listed, named.what)
+            self.assertLessEqual(len(texts.list_text()), min(call.listed, listed), named.what)
             self.assertLessEqual(sum(map(len, texts.parts()[1:])), min(call.asked, named.asked), named.what)  # (without the list)
 
     def test_the_search_is_repeated(self) -> None:

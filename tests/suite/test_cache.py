@@ -76,7 +76,7 @@ class Caches(built.OfLibrary):
         sources = [os.path.join(folder, name) for name in ("cache.c", "verify_openssl.c")]
         self.compile("cc", "-std=c11", "-Wall", "-Wextra", "-Wpedantic", "-Werror", "-I", CRATE, "-o", program, *sources, self.library, "-lcrypto")
         self.check_cache(program)
-        # (an octet 00 ends it, also in a last line without a line feed)
+        # (an octet 00 ends the program with status 1, also in a last line without a line feed)
         self.assertEqual(output_of(program, os.path.join(self.room, "bob", "acl"), "", "", "", text="read /a\0b"), (1, ""))
 
     @needs.needs("cargo", "openssl")

@@ -35,7 +35,7 @@ def path_in(crate, path):
 
 def owner_of(head):
     """The name of the type or trait in the first line of an `impl` or a trait: of `impl TRAIT for TYPE` the type."""
-    return re.match(r"(?:impl(?:<.*?>)?(?: \w+ for)?|pub trait) (\w+)", head)[1]
+    return re.match(r"(?:impl(?:<.*?>)?(?: \w+(?:<.*?>)? for)?|pub trait) (\w+)", head)[1]
 
 
 def calls_in_source(source):

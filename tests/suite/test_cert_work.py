@@ -24,7 +24,7 @@ SEEN: list[int] = [0]
 
 
 class Text(bytes):
-    """A text that adds to SEEN how many of its octets are looked through: by searches, up to what is found, and in parts that are copied."""
+    """A text that adds to SEEN how many of its octets these methods look through, a search up to what it finds, or copy. `re` adds nothing."""
 
     def rfind(self, part: bytes, begin: int = 0, end: int | None = None) -> int:  # type: ignore[override]
         place = super().rfind(part, begin, end)
@@ -94,7 +94,7 @@ def certificate(issuer: Any, subject: Any, *more: Any) -> Any:
 
 
 def signed(cert: Any) -> Any:
-    """A certificate and a signature of it by its issuer, as two items of a sequence."""
+    """A certificate and a signature in its issuer's name, whose value is no real one, as two items of a sequence."""
     return [cert, [b"signature", hash_of(cert), cert[1][1], b"sig"]]
 
 

@@ -142,7 +142,7 @@ def questions_by_hand():
 
 def answers_of(words, questions):
     """Runs `clibrary.c` by these words on questions, which are pairs with the wanted answers. Returns its status, what it writes to standard error,
-    and its answers, each a status and octets: it writes `STATUS LENGTH`, a line feed and the octets."""
+    and its answers, each a status and octets: it writes `STATUS LENGTH`, a line feed and the octets. Raises ValueError if such a line is cut."""
     octets = b"".join(b"%d %d %d\n%s%s" % (command, len(text), len(rows), text, rows) for (_, command, text, rows), _ in questions)
     done = subprocess.run(words, input=octets, capture_output=True, timeout=SECONDS)
     answers, at = [], 0
@@ -155,7 +155,7 @@ def answers_of(words, questions):
 
 
 def faults_of_answers(words, questions):
-    """A text with what is wrong with the answers of `clibrary.c`, if anything. `words` start it. `questions` has questions with their answers."""
+    """What is wrong with the answers of `clibrary.c`, as a text, empty if nothing is. `words` start it. `questions` has also the wanted answers."""
     status, errors, answers = answers_of(words, questions)
     if status or len(answers) != len(questions):
         return f"status {status} after {len(answers)} of {len(questions)} answers: {errors[-2000:]}"

@@ -41,7 +41,7 @@ def names_here():
 
 
 def anchor(heading):
-    """The anchor of a heading, as pages on the web have it: in small letters, with hyphens for spaces, without other punctuation."""
+    """The anchor of a heading, as pages on the web have it: in small letters, with hyphens for spaces, without punctuation but `-` and `_`."""
     bare = re.sub(r"[^\w\- ]", "", heading.replace("`", "")).strip().lower()
     return bare.replace(" ", "-")
 
@@ -80,7 +80,7 @@ def dead_paths(page, names):
     written = {name for _, name, _ in FENCED.findall(text_of(page)) if name}
     for word in possible_paths(page):
         word = re.sub(r"^(?:\.\./|\./)+", "", word.rstrip(".,;:)"))
-        if not PATH.match(word) or "out/" in f"{word}/" or PLACEHOLDER.search(word) or word in MADE_ELSEWHERE | written:
+        if not PATH.match(word) or re.search(r"\bout/", f"{word}/") or PLACEHOLDER.search(word) or word in MADE_ELSEWHERE | written:
             continue
         # (a word with a `/` is a path if it begins with the name of a folder or a file that is here)
         first, is_bare_file = word.split("/")[0], "/" not in word and word.endswith(KINDS)
@@ -108,7 +108,7 @@ def below_crates(part: str) -> list[str]:
 
 
 def missing_definitions() -> Iterator[str]:
-    """Yields `FILES: NAME` for each definition that a row of docs/DEFINITIONS.md names and its files lack, in each crate of the section's head."""
+    """Yields `FILES: NAME` for each definition that a row of docs/DEFINITIONS.md names and its files lack in all crates of the section's head."""
     for head, rows in claims.SECTION.findall(text_of("docs/DEFINITIONS.md")):
         for files, names in DEFINED.findall(rows):
             paths = [f"crates/{crate}/specs/{file}.antt" for crate in re.findall(r"`(\w+)`", head) for file in files.split(", ")]
@@ -132,7 +132,7 @@ class Documents(unittest.TestCase):
         self.assertEqual({path for path in named if "/out/" not in path and not glob.glob(os.path.join(TOP, path))}, set())
 
     def test_lengths(self) -> None:
-        """README.md is no longer than its limit, and docs/ with the pages CALLING.md is below its own: nobody reads long pages."""
+        """README.md is no longer than its limit, and docs/*.md and the pages CALLING.md together are below theirs: nobody reads long pages."""
         lengths = {path: os.path.getsize(path) for pattern in PAGES for path in glob.glob(os.path.join(TOP, pattern), recursive=True)}
         self.assertLessEqual(lengths[os.path.join(TOP, "README.md")], MOST_OF_README)
         self.assertLess(sum(size for path, size in lengths.items() if "/docs/" in path or path.endswith("CALLING.md")), MOST_OF_PAGES)

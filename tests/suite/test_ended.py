@@ -357,7 +357,7 @@ class Refuses(TestOfEnding):
                 self.assertEqual((state_of(path), [name for name in os.listdir(room) if name.startswith(".")]), (before, []))
 
     def test_missing_file(self) -> None:
-        """If the name of the file is wrong, no new file is made: no daemon would read it."""
+        """If the name of the file is wrong, no new file is made, which no daemon would read, unless the command has no certificate and no option."""
         for words in (["first"], ["--list"], ["--adopt"], ["--undo", "first"]):
             status, output = self.run_here("end", "--ended", "other", *words)
             self.assertEqual((status, os.path.exists(self.at("other"))), (2, False), output)
@@ -368,8 +368,8 @@ class Adopts(TestOfEnding):
     """How a file that people have written or changed becomes whole."""
 
     def test_adopt_accepts_files_of_people(self) -> None:
-        """`--adopt` accepts digests in capitals or with spaces around them, other ends of lines, and a last line that is wrong or missing. It writes
-        the file as the command itself does. `lines` are those before the new last line. A line with a digest alone has 65 octets."""
+        """`--adopt` accepts digests in capitals or with spaces around them, other ends of lines, and a last line that is missing or has another
+        SHA-256. It writes the file as the command itself does. `lines` precede the new last line. A line with a digest alone has 65 octets."""
         for name, octets, lines in (
                 ("old", f"#old\n\n{A.upper()}\n {B} #  x\n{C}#\xfc\n".encode(), ["#old", "", A, f"{B} # x", f"{C} # \xfc"]),
                 ("nothing in a comment", f"{A} #\n#\n{B}\t# \n".encode(), [A, "#", B]), ("no end of line", A.encode(), [A]),
@@ -381,7 +381,7 @@ class Adopts(TestOfEnding):
                 self.assertEqual((self.octets(ENDED), f"digests: {len(self.digests_in_file())}\n" in output), (sealed(*lines), True), output)
 
     def test_adopt_of_a_cut_file_needs_yes(self) -> None:
-        """A file without digests, or whose last line does not say their number, is accepted only by `--yes`. A line of a digest has 65 octets."""
+        """A file without digests, or whose line `end ..` is cut or has another number, is accepted only by `--yes`. A digest line has 65 octets."""
         rows: list[tuple[str, bytes, list[str]]] = [
             ("empty", b"", []), ("comments", b"# x\n", ["# x"]), ("a line less", sealed(A, B)[65:], [B]),
             ("a line more", A.encode() + b"\n" + sealed(B), [A, B]), ("a cut last line", sealed(A, B)[:-9], [A, B])]
@@ -409,7 +409,7 @@ class OfLibrary(TestOfEnding):
     """The digests are those of what the library lists to be verified, which the daemon looks up."""
 
     def test_digests_of_the_messages_of_the_library(self) -> None:
-        """`program` prints the SHA-256 of each message that the library lists for the sequence in the file of its first argument."""
+        """`program` prints the SHA-256 of each message that the library lists for the sequence in its first file, asked by the key in its second."""
         program = ("import hashlib, sys, spki; guard = spki.Guard(b'(acl)');"
                    "key = spki.ProvenKey.assume(spki.canonical(open(sys.argv[2], 'rb').read()));"
                    "asked = guard.ask(spki.Question(open(sys.argv[1], 'rb').read(), key, words=(b'files',), moment=b'\"2026-03-01_12:00:00\"'));"

@@ -83,7 +83,7 @@ class Records(unittest.TestCase):
     """What the deep run has recorded."""
 
     def test_what_a_record_covers(self) -> None:
-        """The checksum of a record covers contracts and ghost members, such as views. Other bodies and remarks leave it as it is."""
+        """The checksum of a record covers contracts and ghost members, such as views, which `heads` finds in a text, but no other body or remark."""
         def heads(text: str) -> list[str]:
             return [found[0] for pattern in (records.HEAD, records.GHOST) for found in pattern.finditer(records.REMARK.sub("", text))]
 

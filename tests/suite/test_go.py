@@ -191,7 +191,7 @@ class Daemon:
         return dict(json.loads(self.process.stderr.readline()))
 
     def reload(self) -> dict[str, object]:
-        """Has the daemon read its list again. Returns its message about that."""
+        """Has the daemon read its list and its ended certificates again. Returns its message about that."""
         self.process.send_signal(signal.SIGHUP)
         return self.message()
 
@@ -316,5 +316,5 @@ class Served(OfGo):
 
 
 def value_of(text: bytes) -> Any:
-    """The value of a text in any form: octets, or for a list a list of values."""
+    """The plain value of a text in any form, as `read` gives it. Raises CalledProcessError if the program refuses the text."""
     return read(subprocess.run([built.program(), "canonical"], input=text, stdout=subprocess.PIPE, check=True).stdout)

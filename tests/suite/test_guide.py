@@ -34,7 +34,7 @@ SHELLS = ("sh", "bash")
 
 
 def steps_of_block(text):
-    """Yields the steps of a block of commands: for each the word `command`, the command, and what it should write."""
+    """Yields the steps of a block of commands: for each the word `command`, the command, and what it should write. Leaves out what is before."""
     for part in re.split(r"^\$ ", text, flags=re.MULTILINE)[1:]:
         first, *rest = part.splitlines()
         more = list(itertools.takewhile(lambda line: line.startswith("> "), rest))
@@ -43,7 +43,7 @@ def steps_of_block(text):
 
 def steps_of_markdown(page):
     """Yields the steps of the text of a page in order, each three texts: `file` or `quotation`, its name and its text; or `command`, the command,
-    and what it should write. Raises ValueError if a block is none of these."""
+    and what it should write. Raises ValueError if a block is none of these, but passes over one without a kind."""
     for kind, name, text in BLOCK.findall(page):
         if kind in ("c", "rust", "python") and name and program_of(name):
             yield "quotation", name, text
@@ -77,22 +77,21 @@ def script(steps):
 
 
 def outputs_of(shell, steps, program):
-    """Runs steps in a shell, in an empty folder, with the program at this path as `spki`. Returns a list with what each
-    command writes, and at its end what is written behind the last command."""
+    """Runs steps in a shell, in an empty folder, with the program at this path as `spki`, and `locate` and `spki-cert`. Returns a list with what each
+    command writes, and at its end what is written behind the last command. If the shell ends early, the list is shorter."""
     with tempfile.TemporaryDirectory() as room:
         for folder in ("bin", "work"):
             os.mkdir(os.path.join(room, folder))
         os.symlink(program, os.path.join(room, "bin", "spki"))
         for folder, name in (("apps", "locate"), ("apps/spki-cert", "spki-cert")):
             os.symlink(os.path.abspath(os.path.join(TOP, folder, name)), os.path.join(room, "bin", name))
-        path = os.path.join(room, "bin") + os.pathsep + os.environ["PATH"]
-        settings = {**os.environ, **settings_for_library(steps), "PATH": path}
+        settings = {**os.environ, **settings_for_library(steps), "PATH": os.path.join(room, "bin") + os.pathsep + os.environ["PATH"]}
         output = output_of(shell, text="".join(script(steps)), cwd=os.path.join(room, "work"), env=settings, seconds=SECONDS)[1]
     return output.split(f"{END}\n")
 
 
 def needs_library(commands_of_page: Iterable[str]) -> bool:
-    """Whether one of these commands is `spki-cert`, which asks the library."""
+    """Whether one of these commands names `spki-cert`, which asks the library."""
     return any("spki-cert" in command for command in commands_of_page)
 
 
@@ -113,10 +112,11 @@ def is_as_in_examples(kind, name, text):
 
 
 def indented(page):
-    """The indented blocks of the text of a page. Yields pairs of the paragraph above and the block."""
+    """Yields the indented blocks of the text of a page, as pairs of the paragraph above and the block. An empty line is before each block, and ends
+    it: what is indented behind that is a block of its own, and the first one is then the paragraph above it."""
     parts = re.split(r"\n{2,}", FENCED.sub("", page))
     for above, block in zip(parts, parts[1:]):
-        if all(line.startswith("    ") for line in block.splitlines()):
+        if block and all(line.startswith("    ") for line in block.splitlines()):
             yield above, textwrap.dedent(block)
 
 

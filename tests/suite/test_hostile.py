@@ -446,7 +446,7 @@ LONGEST = ("less_and_less_memory", "small_stack", "under_valgrind", "most_work")
 
 @needs.needs("cc")
 class Hostile(built.OfProgram):
-    """The parts, each with several processes: a test for each is added below."""
+    """The parts, each with several processes: a test for each is added below, for those of LONGEST only in the long tests."""
 
     @classmethod
     def setUpClass(cls):
