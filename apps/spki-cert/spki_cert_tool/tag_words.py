@@ -76,7 +76,7 @@ def has_form(ordering: bytes, octets: bytes) -> bool:
 
 
 def covers(wide: Value, narrow: Value) -> bool:
-    """Whether the tag `wide` contains all that the tag `narrow` contains, as far as that is easily seen. It may be False although it does: for two
+    """Whether the tag `wide` contains all that the tag `narrow` contains, as far as that is easily seen. It may be False although it does, as for two
     ranges, for a range and a prefix, and where only several members of a set contain it together."""
     if wide == narrow or wide == [b"*"]:
         return True
