@@ -226,8 +226,9 @@ def public_in(octets: bytes) -> object:
     from cryptography.hazmat.primitives.serialization import load_pem_public_key, load_ssh_public_key
     try:
         return load_pem_public_key(octets) if PEM.search(octets) else load_ssh_public_key(octets)
-    except UnsupportedAlgorithm:
-        raise BadKey(f"a key of the kind {octets.split()[0].decode(errors='replace')}, and {USED}") from None
+    except UnsupportedAlgorithm as fault:
+        kind = f"a kind that is not read here ({fault})" if PEM.search(octets) else f"the kind {octets.split()[0].decode(errors='replace')}"
+        raise BadKey(f"a key of {kind}, and {USED}") from None
     # (also NotImplementedError for a compressed point, and IndexError for an empty one)
     except Exception:
         raise BadKey(f"no whole public key: was it copied to its end? It must be one line of OpenSSH or a block of PEM, and {USED}") from None
