@@ -345,7 +345,8 @@ def advice_on_existing(path: str, old: bytes, new: bytes) -> str:
 
 
 def head_of_text(octets: bytes) -> bytes | None:
-    """The word that the list in a file begins with, also in braces. None if the file does not begin as a list with a word in front."""
+    """The word that the list in a file begins with, also in braces, as HEAD finds it: in canonical form with the digits that may be right behind it.
+    None if the file does not begin as a list with a word in front."""
     # (`inner` is the text itself, or that in its braces)
     (_, inner, _), _ = read_text(octets)
     match = HEAD.match(inner)
@@ -472,7 +473,7 @@ def not_on_disk(place: str, why: OSError) -> Failed:
 @contextlib.contextmanager
 def locked(path: str) -> Iterator[None]:
     """Holds the lock of the folder of a file that is edited, so that no other edit is lost. Raises Refused if it is not free for SECONDS_TO_LOCK,
-    or if the folder cannot be opened."""
+    or if the folder cannot be opened, and OSError if its file system has no locks."""
     end = time.monotonic() + SECONDS_TO_LOCK
     try:
         folder = os.open(os.path.dirname(os.path.realpath(path)), os.O_RDONLY)

@@ -319,7 +319,7 @@ def read_private(octets: bytes, asking: Asking) -> Private:
 
 def refuse_long(octets: bytes) -> None:
     """Raises BadKey for a private key in PEM that is longer than those that are used, and ValueError or IndexError, which `read_private` catches, for
-    one that is not whole. Of an encrypted one the numbers are not seen."""
+    one that is no base64 or ends within a value. Of an encrypted one the numbers are not seen."""
     found, der, at = PRIVATE_PEM.search(octets), b"", 0
     is_long = found is not None and len(found[1]) > MOST_BETWEEN
     if found is not None and not is_long and not ENCRYPTED_PEM.search(octets):

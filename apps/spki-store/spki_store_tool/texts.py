@@ -109,7 +109,7 @@ def entry_of(text: bytes) -> bytes:
 
 
 def fault_of(texts: list[bytes]) -> tuple[int, str] | None:
-    """The place, from 0, of the first text that is no entry in canonical form, and why. None if all are. Each text must be one list by its parentheses
+    """The place, from 0, of the first text that is no entry in canonical form, and why. None if all are. Each text must be one list by parentheses
     and lengths, as `entries_in` cuts it and schema.sql requires it. So they are read as one access list if they fit into MOST octets, which takes
     less time than one by one."""
     import spki
