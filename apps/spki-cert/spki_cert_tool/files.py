@@ -371,9 +371,9 @@ def write(*parts: tuple[str | None, bytes], mode: int = 0o644, force: bool = Fal
 
 
 def replace(place: str, octets: bytes, mode: int, before: os.stat_result | None) -> None:
-    """Puts a file in its place, by a temporary one beside it. `before` is the state of the file that is replaced, which keeps its mode, its owner and
-    its attributes. For None there is none, and the new file has `mode`. A signal waits until the file is there. Raises OSError if the file is as
-    before, and Failed, which says what it is, after it was put in its place or if the temporary one stays."""
+    """Puts a file in its place, by a temporary one beside it. `before` is the state of the file that is replaced, which keeps its mode, its owner
+    and, as far as the system permits, its attributes. For None there is none, and the new file has `mode`. A signal waits until the file is there.
+    Raises OSError if the file is as before, and Failed, which says what it is, after it was put in its place or if the temporary one stays."""
     # (here, so that commands that write no file start faster)
     import tempfile
     signals_before, temporary, state = signal.pthread_sigmask(signal.SIG_BLOCK, signal.valid_signals()), "", "as before"
