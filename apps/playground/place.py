@@ -76,7 +76,7 @@ def with_certificate_numbers(words, heads):
 
 def place_for_page(text, at, why):
     """A place with its remark, as the page gets it: the begin and the end of the word there, counted as JavaScript counts, and line and column from
-    1. `text` is octets, and `at` an offset in them."""
+    1, the column in characters. `text` is octets, and `at` an offset in them."""
     before = text[:at].decode(errors="ignore")
     # (of a longer word the first 200 octets are underlined, which are enough to see it)
     word = WORD.match(text[at:at + 200].decode(errors="ignore"))[0]

@@ -31,8 +31,8 @@ def fields_of(tag: Value | None, begins: bytes | None, ends: bytes | None, deleg
 
 
 def list_with(entry: Value, before: bytes) -> bytes:
-    """The text of the access list `before` with an entry at its end. What is before that stays as it is, unless the list is in braces: then it is
-    written in advanced form. Raises Refused if a service would refuse the new list."""
+    """The text of the access list `before` with an entry at its end. What is before that stays as it is but for spaces at its end, unless the list is
+    in braces: then it is written in advanced form. Raises Refused if a service would refuse the new list."""
     node = value_in(before)
     text = text_of([b"acl", *members(node.value), entry])
     if not before.lstrip().startswith(b"{"):
