@@ -32,7 +32,7 @@ class Remark(NamedTuple):
     line: int
     column: int
     is_refused: bool
-    """Whether a service would refuse the file. Else it is legal, and probably a mistake."""
+    """Whether a service would refuse the file, or it cannot be read. Else it is legal, and probably a mistake."""
     text: str
 
     def __str__(self) -> str:
