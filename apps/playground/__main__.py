@@ -51,7 +51,7 @@ def start_json(engine_name):
 
 def print_or_say_why(text):
     """Prints a text, and returns whether that worked. If not, prints why on standard error, and puts /dev/null in place of standard output: Python
-    writes again at its end what is left in the buffer."""
+    writes again at its end what is left in the buffer. Where there is no standard output, nothing is printed, and that counts as done."""
     try:
         print(text, flush=True)
     except OSError as why:

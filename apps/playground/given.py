@@ -4,7 +4,7 @@ import functools
 
 from completion import VALUE, with_signatures
 from engine import Question, Refused, case_text, request_text, string
-from place import heads_in, with_certificate_numbers, places, places_for_page
+from place import heads_in, with_certificate_numbers, places, places_for_page, utf16_length
 from spki_cert_tool.sexp import canonical, on_one_line, read
 
 BOXES = ("acl", "sequence", "key", "request", "at")
@@ -118,7 +118,7 @@ class SentQuestion:
         else:
             why = "a request has at least one string"
         first = typed.split(b"\n")[0]
-        place = {"begin": 0, "end": len(first.decode(errors="replace")), "line": 1, "column": 1, "why": why}
+        place = {"begin": 0, "end": utf16_length(first.decode(errors="replace")), "line": 1, "column": 1, "why": why}
         return {"line": line, "places": [place]}
 
     def case(self):

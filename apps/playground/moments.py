@@ -48,7 +48,7 @@ def limits_of(value):
 
 def spans(values, answer):
     """The spans between two changes of an answer, in their order, as the page gets them: a dictionary, where `spans` has for each its answer and the
-    limits at both ends, and `limits` has all limits as dates, also those at which the answer stays the same. The limits are those in `values`, an
+    limits at both ends, and `limits` has the limit of each change as a date, also if the answer stays the same. The limits are those in `values`, an
     access list and a sequence, and `answer` is a function that returns the answer at a date, which is octets. A change is a moment from which the
     answer may be another. Only the first MOST_LIMITS changes are looked at: `isWhole` says whether these are all."""
     all_limits = [limits_of(value) for value in values]

@@ -46,8 +46,8 @@ def places_for_page(text, offsets):
 
 
 def heads_in(text, made_up=()):
-    """The words that the items of a sequence, or of a case's sequence, begin with, as octets. None for an item that the page made up: `made_up` are
-    the offsets of these in `text`. Empty if the text cannot be read."""
+    """The words that the items of a sequence, or of a case's sequence, begin with, as octets: b"" for an item without one, and None for an item that
+    the page made up, of which `made_up` has the offsets in `text`. Empty if the text cannot be read."""
     try:
         node = value_in(text)
     except (Wrong, RecursionError):
@@ -58,8 +58,8 @@ def heads_in(text, made_up=()):
 
 
 def with_certificate_numbers(words, heads):
-    """A refusal or a remark in which `sequence N` or `item N`, the number of an item, is replaced by that of a certificate among the certificates, or
-    of an item among those that were typed. `heads` are the words that the items begin with, or None for one that the page made up."""
+    """A refusal or a remark in which `sequence N` or `item N`, the number of an item, is replaced by that of a certificate among the certificates,
+    also for its signature, or of another item among those that were typed. `heads` are the words of the items, as `heads_in` returns them."""
     def name_of_item(match):
         """What the page calls the item of a match of NUMBER: the matched words themselves if there is no item with this number."""
         number = int(match[1])
@@ -76,7 +76,7 @@ def with_certificate_numbers(words, heads):
 
 def place_for_page(text, at, why):
     """A place with its remark, as the page gets it: the begin and the end of the word there, counted as JavaScript counts, and line and column from
-    1. `text` is octets, and `at` an offset in them."""
+    1, the column in characters. `text` is octets, and `at` an offset in them."""
     before = text[:at].decode(errors="ignore")
     # (of a longer word the first 200 octets are underlined, which are enough to see it)
     word = WORD.match(text[at:at + 200].decode(errors="ignore"))[0]

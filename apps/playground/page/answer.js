@@ -126,7 +126,8 @@ export class Answer {
   }
 
   /** Lists the rights that remain of the entries, each with who holds it. Hides the list if the answer has no field `rights` yet. A right whose
-    * field `before` is not 0 is that in front of the certificate of this number, which stops the chain, so it is none at the end. */
+    * field `before` is not 0 is that in front of the certificate of this number, which stops the chain, so it is none at the end. If all are such
+    * rights, or there is none, a last line says so. */
   showRights(answer) {
     const rights = answer.rights ?? [];
     byId("rights-card").hidden = !answer.rights;

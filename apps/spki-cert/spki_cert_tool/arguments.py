@@ -116,7 +116,7 @@ def not_empty(text: str) -> str:
 
 
 def one_line(text: str) -> str:
-    """A word of the command line as it is. Raises ArgumentTypeError if it is empty, or has line breaks or other control characters."""
+    """A word of the command line as it is. Raises ArgumentTypeError if it is empty, or has line breaks or other control characters of ASCII."""
     if re.search("[\0-\x1f\x7f]", text):
         raise argparse.ArgumentTypeError("this has line breaks or other controls in it")
     return not_empty(text)

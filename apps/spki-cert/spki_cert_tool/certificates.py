@@ -157,7 +157,8 @@ def certificates_in(sequence: Value) -> list[Signed]:
 
 
 class Keys:
-    """Keys that are known, to be found by the principals that name them. Each is made canonical once: many hashes may name a long one."""
+    """Keys that are known, to be found by the principals that name them. Each is made canonical once: many hashes may name a long one. A hash may be
+    added too: no principal names one."""
 
     def __init__(self, keys: Iterable[Value] = ()) -> None:
         # (both by the algorithm and the digest of a hash: the key; and its canonical text with the SHA-256 digest of it)

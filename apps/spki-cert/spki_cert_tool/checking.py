@@ -32,7 +32,7 @@ class Remark(NamedTuple):
     line: int
     column: int
     is_refused: bool
-    """Whether a service would refuse the file. Else it is legal, and probably a mistake."""
+    """Whether a service would refuse the file, or it cannot be read. Else it is legal, and probably a mistake."""
     text: str
 
     def __str__(self) -> str:
@@ -201,8 +201,8 @@ def needless_entries(node: Node) -> Iterator[tuple[int, str]]:
 
 
 def mistakes_in_key(node: Node) -> Iterator[tuple[int, str]]:
-    """Yields the offset of a key and a remark, if it is probably a mistake: a key in a key, or one of a kind that services verify in another
-    form."""
+    """Yields the offset of a key and a remark, if it is probably a mistake: a key in a key, or one of a kind that services verify that is in another
+    form, weak or of another length."""
     inner = node.members[1] if node.members and len(node.members) > 1 else node
     if inner.head == b"public-key":
         yield inner.begin, "this is a key in a key, so no signature by it counts: replace the whole outer `(public-key ..)` by the inner one"

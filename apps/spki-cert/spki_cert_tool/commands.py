@@ -285,7 +285,7 @@ def sequences_below(paths: list[str]) -> Iterator[str]:
 
 def check(given: argparse.Namespace) -> int:
     """Says what is wrong in files. How many they are is in the JSON, or else on standard error. Returns REFUSED if a service would refuse one of
-    them, NO if there are other remarks, and else DONE."""
+    them or one cannot be read, NO if there are other remarks, and else DONE."""
     from .checking import files_below, remarks_on
     moment = now()
     # (for each file its path, whether that itself is given, what the file is, or None if it is left out, and the remarks on it)

@@ -92,8 +92,8 @@ class Drawing:
                 self.add_arrow(b"list", self.add_subject(entry.subject), BLACK, f"entry {number}", *self.lines_of_terms(entry.value))
 
     def add_certificates(self, sequence: Value, stops: int | None = None, cause: str = "") -> None:
-        """Adds an arrow for each certificate of a sequence. If item number `stops` stops the chain, its arrow is the last one, red, and says the
-        `cause`, a key of MEANINGS."""
+        """Adds an arrow for each certificate of a sequence. If item number `stops`, a certificate, stops the chain, its arrow is the last one, red,
+        and says the `cause`, a key of MEANINGS."""
         for number, item in enumerate(members(sequence), 1):
             if headed(item, b"cert") and number <= (stops or number):
                 terms = terms_of(item)

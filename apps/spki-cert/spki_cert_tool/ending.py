@@ -34,7 +34,8 @@ DATED = re.compile(r"(\d{4}-\d\d-\d\d)(?: (.*))?")
 
 
 def visible(text: str) -> str:
-    """A text as one line of visible ASCII. Controls become spaces, several spaces one, and other characters are written by their numbers."""
+    """A text as one line of visible ASCII. Controls become spaces, several spaces one, and those at its ends none. Other characters are written by
+    their numbers."""
     plain = text.encode("ascii", "backslashreplace").decode()
     return " ".join("".join(letter if " " <= letter <= "~" else " " for letter in plain).split())
 

@@ -65,7 +65,7 @@ class Failed(Refused):
 
 
 def write_at_once(stream: TextIO | None, text: str | bytes) -> None:
-    """Writes to a stream of the system and flushes it. In a text, control characters and what its encoding does not have are escaped. `bytes` are
+    """Writes to a stream of the system and flushes it. In a `str`, CONTROLS and what the stream's encoding does not have are escaped. `bytes` are
     written as they are. Raises OSError, also if the stream was closed before the program began (None), or ValueError if it was closed since."""
     if stream is None:
         raise OSError(errno.EBADF, "it is closed")
@@ -138,7 +138,8 @@ def octets_of(path: str, most: int = MOST_OCTETS + 1) -> bytes:
 
 
 def refusal_to_read(path: str, why: OSError) -> Refused:
-    """The exception for a file that cannot be read. A path that is perhaps a key itself is not repeated, since it may be secret."""
+    """The exception for a file that cannot be read, perhaps with a similar name in its folder. Of a path that is not there and is perhaps a key
+    itself, what may be secret is not repeated."""
     without_secrets, (folder, name) = PASTED.sub("..", path), os.path.split(path)
     if without_secrets != path and not os.path.lexists(path):
         return Refused(f"{without_secrets}: this is no file, and perhaps a key itself: write it into a file; --to also takes '(hash sha256 #..#)'")
@@ -223,8 +224,8 @@ def passphrase_for(path: str) -> bytes:
 
 
 def key_at(path: str, number: int | None = None, is_private_too: bool = False) -> Value:
-    """The public key of a file in any form: the one with this number, from 1, where there are several. Raises Refused, also for a private key unless
-    `is_private_too`."""
+    """The public key of a file in any form: the one with this number, from 1, which must be given if there are several. Raises Refused, also for a
+    private key unless `is_private_too`."""
     with octets_of_key(path) as octets:
         if is_private(octets) and not is_private_too:
             raise BadKey(f"this is a private key, which nobody else may have; give the public one{', ' + path + '.pub' if path != '-' else ''}")
@@ -232,8 +233,8 @@ def key_at(path: str, number: int | None = None, is_private_too: bool = False) -
 
 
 def signer_at(path: str) -> Signer:
-    """What signs by the key of a file: a private key itself, or ssh-agent for a public one. Raises Refused if the file cannot be read or has no key
-    that is used, if its passphrase is not given, or if ssh-agent does not answer or does not hold the key."""
+    """What signs by the key of a file: a private key itself, or ssh-agent for a public one. Raises Refused if the file cannot be read, or has no key
+    that is used or several, if its passphrase is not given, or if ssh-agent does not answer or does not hold the key."""
     with octets_of_key(path) as octets:
         if is_private(octets):
             return FileSigner(read_private(octets, lambda: passphrase_for(path)))
@@ -256,8 +257,8 @@ def octets_of_key(path: str) -> Iterator[bytes]:
 
 
 def remark_on_mode(path: str) -> Iterator[str]:
-    """Yields a remark if a file has a private key and others have some access to it, else nothing. Standard input, `-`, has no mode. Raises Refused
-    if others have access and the file cannot be read."""
+    """Yields a remark if a regular file has a private key and others have some access to it, else nothing. Standard input, `-`, has no mode. Raises
+    Refused if others have access and the file cannot be read."""
     # (what is not there has no mode)
     with contextlib.suppress(OSError):
         state = os.stat(path)
@@ -267,7 +268,7 @@ def remark_on_mode(path: str) -> Iterator[str]:
 
 
 def now(days: int = 0) -> bytes:
-    """The moment that is so many days from now, as a date of a certificate. Raises Refused if that is after the year 9999."""
+    """The moment that is so many days from now, 0 or more, as a date of a certificate. Raises Refused if that is after the year 9999."""
     try:
         return (datetime.now(timezone.utc) + timedelta(days)).strftime(DATE_FORMAT).encode()
     except OverflowError:
@@ -334,8 +335,8 @@ def target_of(path: str, new: bytes, force: bool, edits: bool) -> tuple[str, os.
 
 
 def advice_on_existing(path: str, old: bytes, new: bytes) -> str:
-    """What to do where a file is there already, in words. `old` are its octets, and `new` those to be written. If the two have different heads, also
-    in braces, the path is probably a mistake, and --force is not advised."""
+    """What to do where a file is there already, in words. `old` are its octets, perhaps in braces, and `new` those to be written. If `old` has a head
+    that `new` does not begin with, the path is probably a mistake, and --force is not advised."""
     head = head_of_text(old)
     if head is None or new.startswith(b"(" + head):
         return "--force writes over it"
@@ -344,7 +345,8 @@ def advice_on_existing(path: str, old: bytes, new: bytes) -> str:
 
 
 def head_of_text(octets: bytes) -> bytes | None:
-    """The word that the S-expression in a file begins with, also in braces. None if the file does not begin as one."""
+    """The word that the list in a file begins with, also in braces, as HEAD finds it: in canonical form with the digits that may be right behind it.
+    None if the file does not begin as a list with a word in front."""
     # (`inner` is the text itself, or that in its braces)
     (_, inner, _), _ = read_text(octets)
     match = HEAD.match(inner)
@@ -369,9 +371,9 @@ def write(*parts: tuple[str | None, bytes], mode: int = 0o644, force: bool = Fal
 
 
 def replace(place: str, octets: bytes, mode: int, before: os.stat_result | None) -> None:
-    """Puts a file in its place, by a temporary one beside it. `before` is the state of the file that is replaced, which keeps its mode, its owner and
-    its attributes. For None there is none, and the new file has `mode`. A signal waits until the file is there. Raises OSError if the file is as
-    before, and Failed, which says what it is, after it was put in its place or if the temporary one stays."""
+    """Puts a file in its place, by a temporary one beside it. `before` is the state of the file that is replaced, which keeps its mode, its owner
+    and, as far as the system permits, its attributes. For None there is none, and the new file has `mode`. A signal waits until the file is there.
+    Raises OSError if the file is as before, and Failed, which says what it is, after it was put in its place or if the temporary one stays."""
     # (here, so that commands that write no file start faster)
     import tempfile
     signals_before, temporary, state = signal.pthread_sigmask(signal.SIG_BLOCK, signal.valid_signals()), "", "as before"
@@ -429,7 +431,8 @@ def as_far_as_permitted() -> Iterator[None]:
 
 
 def put_in_place(temporary: str, place: str, is_new: bool) -> None:
-    """Gives a temporary file its name `place`. If `is_new`, a file that somebody else has made there meanwhile stays. Raises OSError."""
+    """Gives a temporary file its name `place`. If `is_new`, it may keep its old name too, which `replace` deletes, and a file that somebody else has
+    made there meanwhile stays, if the file system has links. Raises OSError."""
     if not is_new:
         os.replace(temporary, place)
         return
@@ -470,7 +473,7 @@ def not_on_disk(place: str, why: OSError) -> Failed:
 @contextlib.contextmanager
 def locked(path: str) -> Iterator[None]:
     """Holds the lock of the folder of a file that is edited, so that no other edit is lost. Raises Refused if it is not free for SECONDS_TO_LOCK,
-    or if the folder cannot be opened."""
+    or if the folder cannot be opened, and OSError if its file system has no locks."""
     end = time.monotonic() + SECONDS_TO_LOCK
     try:
         folder = os.open(os.path.dirname(os.path.realpath(path)), os.O_RDONLY)

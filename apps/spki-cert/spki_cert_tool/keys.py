@@ -28,7 +28,8 @@ KINDS = (ED25519, RSA, P256, P384)
 NEW_BITS = 3072
 # The octets of each of the two numbers of a signature by Ed25519 or P-256.
 HALF = 32
-# So many octets are read of a number of a private RSA key in an S-expression. One of up to 4098 is refused with its number of bits.
+# So many octets are read of a number of a private RSA key in an S-expression, since computing with more would take long. A longer key than those
+# that are used is refused with its number of bits, which is right up to so many octets.
 MOST_OCTETS = 4098
 # The most octets of a number of a private key in PEM, 4096 bits behind a zero octet, and of what is between its lines BEGIN and END, where such a key
 # has 3400. `cryptography` tests primes of any length, which may take minutes, and no signal ends the program meanwhile.
@@ -108,7 +109,8 @@ def public_of(key: Value) -> Public | None:
 
 
 def kind_of(key: Value) -> str:
-    """What kind of key an SPKI key is, for people to read: as "Ed25519", "ECDSA NIST P-256" or "RSA 3072", where the number is that of the bits."""
+    """What kind of key an SPKI key is, for people to read: as "Ed25519", "ECDSA NIST P-256" or "RSA 3072", where the number is that of the bits. Of
+    another key the algorithm, or that it is not known."""
     match key:
         case [_, [b"ecc", [b"curve", b"Ed25519"], *_]]:
             return "Ed25519"
@@ -166,26 +168,27 @@ def verifies(key: Value, message: bytes, value: Value) -> bool:
 
 
 def is_private(octets: bytes) -> bool:
-    """Whether the octets of a file have a private key: PEM, OpenSSH, PuTTY or an S-expression."""
+    """Whether the octets of a file have a private key in PEM or OpenSSH's form, or begin as one of PuTTY, or behind spaces as PRIVATE."""
     has_pem = any(kind.endswith(b"PRIVATE KEY") for kind in PEM.findall(octets))
     return has_pem or octets.startswith(b"PuTTY-User-Key-File") or octets.lstrip().startswith(PRIVATE)
 
 
 def is_key_file(octets: bytes) -> bool:
-    """Whether the octets of a file have a line of OpenSSH or a block of PEM, as keys in another form than an S-expression have, and do not begin as
-    an S-expression."""
+    """Whether the octets of a file have a line of OpenSSH or the first line of a block of PEM, as keys have that are no S-expression. False for what
+    `is_text` accepts: its strings may have such lines."""
     return not is_text(octets) and (PEM.search(octets) is not None or OPENSSH.search(octets) is not None)
 
 
 def is_text(octets: bytes) -> bool:
-    """Whether the octets of a file begin as an S-expression that is no private key."""
+    """Whether the octets of a file begin with `(` or `{`, as an S-expression, and not as PRIVATE. So JSON is one here, which is refused when it is
+    read."""
     return octets.lstrip().startswith((b"(", b"{")) and not octets.lstrip().startswith(PRIVATE)
 
 
 def read_public(octets: bytes, asking: Asking, number: int | None = None) -> Value:
     """The public key of the octets of a file: OpenSSH, PEM or S-expression, public or private. Of several it is the one with this number, from 1,
-    which must be given then. `asking` is called for the passphrase of an encrypted private key in PEM. Raises BadKey, or Wrong for another text
-    that is no key."""
+    which must be given then. `asking` is called for the passphrase of an encrypted private key in PEM. Of a public S-expression only the form is
+    tested. Raises Wrong for an S-expression that is no key and for a text in none of the forms, and BadKey for the rest."""
     if is_private(octets):
         octets = public_part(octets) or openssh_line(read_private(octets, asking).public_key())
     pieces = pieces_of(octets)
@@ -202,8 +205,8 @@ def read_public(octets: bytes, asking: Asking, number: int | None = None) -> Val
 
 
 def pieces_of(octets: bytes) -> list[tuple[int, bytes]]:
-    """The parts of the octets of a file that are one public key each, with the offset of each: the whole if it begins as an S-expression, otherwise
-    the lines of OpenSSH and the blocks of PEM in their order in the file, or the whole if there are none."""
+    """The parts of the octets of a file that are read as one public key each, with the offset of each: the whole if `is_text`, otherwise the lines of
+    OpenSSH and the blocks of PEM, of any kind, in their order in the file, or the whole if there are none."""
     if is_text(octets):
         return [(0, octets)]
     lines = [(found.start(1), found[1]) for found in OPENSSH.finditer(octets)]
@@ -223,8 +226,9 @@ def public_in(octets: bytes) -> object:
     from cryptography.hazmat.primitives.serialization import load_pem_public_key, load_ssh_public_key
     try:
         return load_pem_public_key(octets) if PEM.search(octets) else load_ssh_public_key(octets)
-    except UnsupportedAlgorithm:
-        raise BadKey(f"a key of the kind {octets.split()[0].decode(errors='replace')}, and {USED}") from None
+    except UnsupportedAlgorithm as fault:
+        kind = f"a kind that is not read here ({fault})" if PEM.search(octets) else f"the kind {octets.split()[0].decode(errors='replace')}"
+        raise BadKey(f"a key of {kind}, and {USED}") from None
     # (also NotImplementedError for a compressed point, and IndexError for an empty one)
     except Exception:
         raise BadKey(f"no whole public key: was it copied to its end? It must be one line of OpenSSH or a block of PEM, and {USED}") from None
@@ -262,7 +266,7 @@ def split_string(octets: bytes) -> tuple[bytes, bytes]:
 
 
 def key_of_text(octets: bytes) -> Value:
-    """The SPKI key in a text, which may have any of the three forms. Raises Wrong for any other text."""
+    """The SPKI key in a text, which may have any of the three forms. Whether its numbers are weak is not tested. Raises Wrong for any other text."""
     from .structures import read_key
     node = value_in(octets)
     read_key(node)
@@ -315,7 +319,7 @@ def read_private(octets: bytes, asking: Asking) -> Private:
 
 def refuse_long(octets: bytes) -> None:
     """Raises BadKey for a private key in PEM that is longer than those that are used, and ValueError or IndexError, which `read_private` catches, for
-    one that is not whole. Of an encrypted one the numbers are not seen."""
+    one that is no base64 or ends within a value. Of an encrypted one the numbers are not seen."""
     found, der, at = PRIVATE_PEM.search(octets), b"", 0
     is_long = found is not None and len(found[1]) > MOST_BETWEEN
     if found is not None and not is_long and not ENCRYPTED_PEM.search(octets):
@@ -338,7 +342,8 @@ def refuse_long(octets: bytes) -> None:
 
 def private_of_text(octets: bytes) -> Private:
     """The private key of an S-expression, as libgcrypt has it. For a curve the public point `q` is not read, but computed. Raises Wrong if it is no
-    S-expression, BadKey for another form, and ValueError or ArithmeticError, which `read_private` catches, for numbers that are no key."""
+    S-expression, BadKey for another form or an RSA key of a length that is not used, and ValueError or ArithmeticError, which `read_private` catches,
+    for numbers that are no key."""
     from cryptography.hazmat.primitives.asymmetric import ec, ed25519, rsa
     match Parser(octets).whole().value:
         case [b"private-key", [b"ecc", [b"curve", b"Ed25519"], [b"flags", b"eddsa"], [b"q", _], [b"d", bytes() as secret]]]:

@@ -31,8 +31,8 @@ def fields_of(tag: Value | None, begins: bytes | None, ends: bytes | None, deleg
 
 
 def list_with(entry: Value, before: bytes) -> bytes:
-    """The text of the access list `before` with an entry at its end. What is before that stays as it is, unless the list is in braces: then it is
-    written in advanced form. Raises Refused if a service would refuse the new list."""
+    """The text of the access list `before` with an entry at its end. What is before that stays as it is but for spaces at its end, unless the list is
+    in braces: then it is written in advanced form. Raises Refused if a service would refuse the new list."""
     node = value_in(before)
     text = text_of([b"acl", *members(node.value), entry])
     if not before.lstrip().startswith(b"{"):
@@ -93,8 +93,8 @@ def refuse_as_service(what: str, text: bytes) -> None:
 
 def warnings_of_certificate(terms: Terms, tag_text: str, chain_until: bytes | None, chain: Value | None, tries: list[Value]) -> Iterator[str]:
     """Yields what is probably a mistake in a certificate. It is made only if that is confirmed. The chain, the sequence by which its issuer has the
-    right, must be valid until the moment `chain_until`, or without end if that is None. `tag_text` is the tag as it was written, and `tries` are
-    requests that the tag is to contain."""
+    right, must be valid until the moment `chain_until`, or without end if that is None. `tag_text` is the tag as it was written, if there is one, and
+    `tries` are requests that the tag is to contain."""
     if terms.ends is None:
         yield "it has no end: give --days or --until; otherwise it counts until a service ends it by `spki-cert end`"
     if terms.name is None and not terms.names and Keys([terms.issuer or b"", terms.principal]).are_one(terms.issuer, terms.principal):
@@ -120,7 +120,7 @@ def warnings_of_list(new_entry: Value, before: bytes) -> Iterator[str]:
 
 def warnings_of(terms: Terms, tag_text: str, tries: list[Value]) -> Iterator[str]:
     """Yields what is probably a mistake in what certificates and entries both have. A missing end is no mistake here: an entry can be removed
-    from its list. `tag_text` is the tag as it was written, and `tries` are requests that the tag is to contain."""
+    from its list. `tag_text` is the tag as it was written, if there is one, and `tries` are requests that the tag is to contain."""
     yield from (f"{why}: give a later date by --until" for _, why in remarks_on_window(terms.begins, terms.ends, now()))
     if headed(terms.principal, b"hash") and members(terms.principal)[0] == b"sha1":
         yield "its subject is a hash by sha1, which names no key under the strict policy"

@@ -81,7 +81,7 @@ def may_be_secret(text: bytes) -> bool:
 
 
 def has_private_key(word: bytes) -> bool:
-    """Whether a word of a command has a private key in it."""
+    """Whether a word of a command probably has a private key in it."""
     # (a key in JSON, a JWK, has a member "kty", and its private part is the member "d")
     return PRIVATE.search(word) is not None or b'"kty"' in word and b'"d"' in word
 

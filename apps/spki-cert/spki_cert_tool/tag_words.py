@@ -76,7 +76,7 @@ def has_form(ordering: bytes, octets: bytes) -> bool:
 
 
 def covers(wide: Value, narrow: Value) -> bool:
-    """Whether the tag `wide` contains all that the tag `narrow` contains, as far as that is easily seen. It may be False although it does: for two
+    """Whether the tag `wide` contains all that the tag `narrow` contains, as far as that is easily seen. It may be False although it does, as for two
     ranges, for a range and a prefix, and where only several members of a set contain it together."""
     if wide == narrow or wide == [b"*"]:
         return True
@@ -181,8 +181,8 @@ def remarks_on_range(node: Node, ordering: bytes, limits: list[bytes]) -> Iterat
     `le`, for above, at least, below or at most, and then a string; perhaps two more of these; or nothing."""
     limit_by_word = dict(zip(limits[::2], limits[1::2]))
     low, up = limit_by_word.get(b"g", limit_by_word.get(b"ge")), limit_by_word.get(b"l", limit_by_word.get(b"le"))
-    for limit in filter(None, (low, up)):
-        if not has_form(ordering, limit):
+    for limit in (low, up):
+        if limit is not None and not has_form(ordering, limit):
             yield node.begin, f"the limit `{on_one_line(limit)}` is no {ordering.decode()} as requests have them"
     is_strict = b"g" in limit_by_word or b"l" in limit_by_word
     if low is not None and up is not None and (low > up or low == up and is_strict):

@@ -151,7 +151,7 @@ CREATE TRIGGER note_removed AFTER DELETE ON @SCHEMA@.entries REFERENCING OLD TAB
 CREATE TRIGGER note_ended AFTER INSERT ON @SCHEMA@.ended REFERENCING NEW TABLE AS changed
     FOR EACH STATEMENT EXECUTE FUNCTION @SCHEMA@.note_change();
 
--- Refuses a statement, whoever runs it: what the triggers below are for is never changed.
+-- Refuses a statement, whoever runs it: an entry is added or removed, but not changed, and what has ended and the log stay as they are.
 CREATE FUNCTION @SCHEMA@.refuse_change() RETURNS trigger LANGUAGE plpgsql SET search_path = pg_catalog, pg_temp AS $$
 BEGIN
     RAISE insufficient_privilege USING MESSAGE = format('%s of %s is refused', TG_OP, TG_TABLE_NAME);

@@ -53,7 +53,8 @@ def connect_to(settings: str) -> psycopg.Connection[Any]:
 
 def run_within(connection: PGconn, text: bytes, seconds: float) -> bytes:
     """Runs the statements in `text`, and waits for at most so many seconds. Returns the first value in the first row of the last one that returns
-    rows, as octets. Raises OperationalError if one fails, or if the server does not answer in time. (psycopg alone would wait for ever.)"""
+    rows, as octets, or b"" if it is NULL or there is none. Raises OperationalError if one fails, or if the server does not answer in time. (psycopg
+    alone would wait for ever.)"""
     end, value = time.monotonic() + seconds, b""
     connection.send_query(text)
     connection.flush()

@@ -69,7 +69,7 @@ def entries_in(text: bytes, begin: int = 0) -> Iterator[tuple[bytes, int]]:
 
 def read_list(path: str) -> bytes:
     """The text of the list in a file. One of at most 1 MiB may have any of the three forms, and is made canonical. A longer one is returned as it is.
-    Raises Wrong for a short text in none of the forms, or a longer stream, and OSError."""
+    That it is an access list is not tested. Raises Wrong for a short text in none of the forms, or a longer stream, and OSError."""
     with open(path, "rb") as file:
         text = file.read(MOST + 1)
         if len(text) <= MOST:
@@ -109,8 +109,9 @@ def entry_of(text: bytes) -> bytes:
 
 
 def fault_of(texts: list[bytes]) -> tuple[int, str] | None:
-    """The place, from 0, of the first text that is no entry in canonical form, and why. None if all are. Each text must be one list in canonical
-    form, as `entries_in` cuts it. So they are read as one access list if they fit into MOST octets, which takes less time than one by one."""
+    """The place, from 0, of the first text that is no entry in canonical form, and why. None if all are. Each text must be one list by parentheses
+    and lengths, as `entries_in` cuts it and schema.sql requires it. So they are read as one access list if they fit into MOST octets, which takes
+    less time than one by one."""
     import spki
     whole = BEGIN + b"".join(texts) + END
     # (a list that is refused is read again below, text by text)

@@ -103,8 +103,8 @@ def forget(store: Store, path: str) -> None:
 
 
 def export_list(store: Store, path: str) -> int:
-    """Writes all entries as one list in canonical form into a new file, whole or not at all. Returns how many they are. Raises Wrong if the file is
-    there already, and OSError."""
+    """Writes all entries as one list in canonical form into a new file, which only its owner may read, whole or not at all. Returns how many they
+    are. Raises Wrong if the file is there already, and OSError."""
     if os.path.lexists(path):
         raise Wrong(f"{path} is there already, and is not written over")
     count = 0
