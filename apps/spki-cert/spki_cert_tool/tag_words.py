@@ -181,8 +181,9 @@ def remarks_on_range(node: Node, ordering: bytes, limits: list[bytes]) -> Iterat
     `le`, for above, at least, below or at most, and then a string; perhaps two more of these; or nothing."""
     limit_by_word = dict(zip(limits[::2], limits[1::2]))
     low, up = limit_by_word.get(b"g", limit_by_word.get(b"ge")), limit_by_word.get(b"l", limit_by_word.get(b"le"))
-    for limit in (low, up):
-        if limit is not None and not has_form(ordering, limit):
+    # (an empty limit is no mistake: the intersection of `(* prefix "")` and `(* range date)` is `(* range date ge "")`)
+    for limit in filter(None, (low, up)):
+        if not has_form(ordering, limit):
             yield node.begin, f"the limit `{on_one_line(limit)}` is no {ordering.decode()} as requests have them"
     is_strict = b"g" in limit_by_word or b"l" in limit_by_word
     if low is not None and up is not None and (low > up or low == up and is_strict):
