@@ -1,7 +1,7 @@
 """Texts that are made by numbers, so that a search can change them: which tags and names an entry and the certificates have, how long, how
 often and how deep. A `Recipe` has the numbers of a list and a question, a `Link` those of a certificate and how often it is there, and a `Form` those
-of a text to be converted. All certificates are of one key, and join, so that no work is left out. One number of the entries and one of the
-certificates grows until the text has the octets that are wanted."""
+of a text to be converted. All certificates are of one key, and join as far as `Recipe.certificates` says, so that little work is left out. One
+number of the entries and one of the certificates grows until the text has the octets that are wanted."""
 import base64
 import random
 from collections.abc import Callable, Iterator
@@ -118,7 +118,8 @@ class Recipe:
         return group(string("acl"), *[entry] * entries.count)
 
     def certificates(self) -> Iterator[bytes]:
-        """The certificates, in order. Each continues from the subject of the one before, or of the entries."""
+        """The certificates, in order. Each continues from the subject of the one before, or of the entries, as long as the first string of that
+        subject is `n`: if a definition puts the owner in its place, and empty strings remain, neither the next one nor later ones join."""
         # (how many strings the name of that subject has: a definition replaces the first by its own subject)
         names = self.entries.names
         for link in self.links:

@@ -177,8 +177,8 @@ static void *decide_on(void *number)
     return NULL;
 }
 
-/* What a thread does until it is stopped, to find out how many processors are free: it only counts, and uses nothing that threads share. `number` is
- * that of the thread, from 0, as a pointer. The waits of an earlier work stay in `tallies`: nothing prints them for this one. */
+/* What a thread does until it is stopped, to find out how many processors are free: it only counts, and of what threads share it reads only `stop`.
+ * `number` is that of the thread, from 0, as a pointer. The waits of an earlier work stay in `tallies`: nothing prints them for this one. */
 static void *count_on(void *number)
 {
     long count = 0;

@@ -275,7 +275,7 @@ func TestLastSync(t *testing.T) {
 				}
 			}
 			// (writes a line. Then fsync, if it is called, fails during a `beat`, and unless isOver also after it)
-			writeUnsynced := func(line string) {
+			writeAndFailBeat := func(line string) {
 				if err := ledger.write([]byte(line)); err != nil {
 					t.Error(err)
 				}
@@ -283,14 +283,14 @@ func TestLastSync(t *testing.T) {
 				ledger.beat()
 				disk.syncFails = !isOver
 			}
-			writeUnsynced("one\n")
+			writeAndFailBeat("one\n")
 			if err := os.Rename(ledger.path, ledger.path+".1"); err != nil {
 				t.Fatal(err)
 			}
 			checkError("reopened", ledger.reopen())
 			disk = &failingFile{File: ledger.file.(*os.File), room: -1}
 			ledger.file = disk
-			writeUnsynced("two\n")
+			writeAndFailBeat("two\n")
 			ledger.mustHave(t, "two\n")
 			checkError("closed", ledger.close())
 		}

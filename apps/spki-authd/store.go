@@ -230,7 +230,7 @@ func (s *store) read(keyDigest digest, key []byte) (*list, error) {
 // reads no further row: nobody can fill the memory by adding entries.
 func (r *entryRows) add(number int, text []byte) error {
 	r.size += len(text)
-	// (store.openRows puts the entries into `(3:acl ..)`)
+	// (openRows gives the texts to `open`, which puts them into `(3:acl ..)`)
 	if len(r.numbers) == mostRows || r.size > mostList-len("(3:acl)") {
 		return errMany
 	}

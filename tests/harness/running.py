@@ -80,7 +80,8 @@ class Result(unittest.TestResult):
             self.add(test, f"it was skipped although tests/harness/needs.py says that nothing is missing: {reason}")
 
     def addFailure(self, test, err) -> None:
-        self.add(test, str(err[1]) if isinstance(err[1], AssertionError) else "".join(traceback.format_exception(*err)))
+        # (the message of an assertion says what is wrong, and of another exception only the traceback says where it is)
+        self.add(test, str(err[1]) if isinstance(err[1], AssertionError) and str(err[1]) else "".join(traceback.format_exception(*err)))
 
     def addError(self, test, err) -> None:
         self.addFailure(test, err)

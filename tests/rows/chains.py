@@ -103,10 +103,10 @@ def chains():
     hashed = cert(digest(key("a")), key("d"))
     yield "hashed issuer, its key shown", case(entry("a"), row(hashed, key("a")), signed(hashed, key("a")) + key("a")), YES
     yield "chain in another order", case(entry("a"), rows, " ".join(reversed([signed(cert(*link), link[0]) for link in CHAIN]))), NO
-    yield "one certificate left out", case(entry("a"), rows, signed(cert(*CHAIN[0]), key("a"))), NO
+    yield "only the first certificate", case(entry("a"), rows, signed(cert(*CHAIN[0]), key("a"))), NO
     yield "one certificate twice", case(entry("a"), rows, items + signed(cert(*CHAIN[2]), key("c"))), NO
     yield "second entry", case(entry("b") + entry("a"), rows, items), (0, "yes entry 2\n")
-    yield "value of another row", case(entry("a"), rows.replace(" sig)", " other)"), items), NO
+    yield "rows of another value", case(entry("a"), rows.replace(" sig)", " other)"), items), NO
     yield "row of another key", case(entry("a"), rows.replace("test c", "test x"), items), NO
     yield "entry that does not delegate", case(entry("a", "(tag (*))"), rows, items), NO
     last = cert(key("a"), key("d"), "(tag (*))")

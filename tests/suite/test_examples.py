@@ -21,7 +21,7 @@ class Example(unittest.TestCase):
 
 
 class OfProgram(Example):
-    """The examples that need the program alone."""
+    """The examples that need nothing that is built but the program."""
 
     @needs.needs("import cryptography")
     def test_signed(self) -> None:

@@ -248,9 +248,9 @@ class Daemons(WithOwnServers):
 
     @needs.needs("ip")
     def test_cut_network_and_failover(self) -> None:
-        """The daemon `old` reads the primary, `near` the first replica, and `far` the second one, over a network. The first replica is cut from the
-        primary, `far` from its replica, and the primary from all others. Then the first replica takes its place. The old primary comes back, and
-        `old` grants nothing for 4 seconds, longer than a state may be old."""
+        """The daemon `old` reads the primary, `near` the first replica, `far` the second. The first replica is cut off, then `far`, then the primary,
+        whose place the first replica takes. A change, also a beat, counts once a replica has it: so `old` grants nothing then, nor for 4 seconds when
+        the old primary is back. No daemon may grant by Bob's entry STALE seconds after the new primary has removed it."""
         nodes = self.make_nodes(4)
         primary = self.primary(SHORT_WAITS, nodes[0])
         replicas = [self.replica(primary, at=each) for each in nodes[1:3]]

@@ -1,4 +1,4 @@
-"""Runs the program with words that ask for no command, and with those that ask for help.
+"""Runs the program with words that ask for no command, with those that ask for help, and with one right command beside them.
 
 Wrong words end with status 2, nothing on standard output and a message or the usage on standard error; help with status 0, nothing on
 standard output and the help on standard error, which names the exit statuses 0, 2 and 3. The help of the program begins with what it does."""
@@ -42,5 +42,5 @@ class Words(built.OfProgram):
                 self.assertEqual((status, out, is_help), (0, b"", True), f"spki {b' '.join(words)!r}: {errors!r}")
         self.assertTrue(self.run_with((b"--help",))[2].startswith(b"Decides"))
 
-    def test_canonical_without_more_words(self) -> None:
+    def test_one_right_command(self) -> None:
         self.assertEqual(self.run_with((b"canonical",)), (0, TEXT, b""))

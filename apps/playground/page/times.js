@@ -106,8 +106,8 @@ export class Times {
   }
 }
 
-/** A span of time in words. Its ends are limits as `moments.py` gives them, or nothing. Before a limit with the word `after`, the moment itself is
-  * still in the span. */
+/** A span of time in words. Its ends are limits as `moments.py` gives them, or nothing. One that ends at a limit with the word `after` still has the
+  * limit's moment, and one that ends at a limit with the word `from` does not. */
 function spanInWords({ begin, end }) {
   const from = begin && `${begin.word} ${begin.moment}`;
   const until = end && (end.word === "after" ? `until ${end.moment}` : `before ${end.moment}`);

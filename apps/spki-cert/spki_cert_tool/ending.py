@@ -164,7 +164,8 @@ def make(given: argparse.Namespace) -> int:
 
 def add(given: argparse.Namespace) -> int:
     """Ends certificates: adds their digests to the file, each with today's date in UTC and at most MOST_REASON letters of --reason as a
-    comment. Says which of them had ended before: they are not written twice. Returns DONE."""
+    comment. Says which of them had ended before: they are not written twice. Returns DONE. Raises Refused, OSError or Failed as `digests_named`,
+    `lines_in` and `write_lines` do."""
     digests = digests_named(given)
     # (of the present moment, as 2026-03-01_12:00:00, the first 10 octets are the date)
     comment = f"{now()[:10].decode()} {visible(given.reason)[:MOST_REASON]}".rstrip()

@@ -145,7 +145,8 @@ def excerpt(octets: bytes) -> str:
 
 @dataclass
 class Parser:
-    """Reads advanced form, which contains canonical form, or canonical form alone. Its methods raise Wrong."""
+    """Reads advanced form, which contains canonical form, or canonical form alone. Its methods raise Wrong, but for `trailing_fault`, which
+    returns it."""
 
     text: bytes
     is_canonical: bool = False

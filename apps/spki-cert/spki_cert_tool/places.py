@@ -239,8 +239,8 @@ def kind_of(node: Node, word: str) -> str | None:
 def read_as(node: Node, word: str, fault: str) -> None:
     """Raises Wrong for the first fault of a value of a kind: its canonical form is too long, or the reader of the kind refuses it. Where no refusal
     is to be explained, a part of a text, such as a certificate, is read too. Other values are not. `word` and `fault` are those of the refusal
-    `refused WORD FAULT` that is to be explained, or empty. If FAULT is one of the form other than TooLong, nothing is read: the form could be
-    read here, so this is not the text that was refused."""
+    `refused WORD FAULT` that is to be explained, or empty. (Of one with a number `fault` is the number.) If FAULT is one of the form other than
+    TooLong, nothing is read: the form could be read here, so this is not the text that was refused."""
     if fault in FORM_FAULTS and fault != "TooLong":
         return
     kind, length = kind_of(node, word), len(canonical(node.value))

@@ -25,7 +25,8 @@ pub(crate) fn call(alloc: Global, name: &str, texts: &[Vec<u8>]) -> Option<Reply
     }
 }
 
-/// The intersection of the tags A and B of a text `(intersect A B)`, in canonical form, or the fault if there is none (`false`: it is not `Memory`).
+/// The intersection of the tags A and B of a text `(intersect A B)`, in canonical form: `(* set)` if no request is in both. Err is the fault of
+/// `intersect`, such as that of a tag that is refused (`false`: it is not `Memory`).
 fn intersection(alloc: Global, text: &[u8]) -> Reply {
     match intersect(alloc, text) {
         Ok(tag) => answer(alloc, tag),
