@@ -21,19 +21,19 @@ const (
 const mostSocketPath = 107
 
 // checkEntrance returns an error if `listen` or a field for it is wrong. Only the web server may be able to ask, and it must know that this daemon
-// answers: by the folder of a Unix socket, or by a certificate for TLS. The number of a port is not tested.
+// answers: by the folder of a Unix socket, or by a certificate for TLS. The port is a number from 1 on: 0 or none would be any port.
 func (c *config) checkEntrance() error {
 	if path := strings.TrimPrefix(c.Listen, unixScheme); path != c.Listen {
 		return c.checkSocket(path)
 	}
 	address := strings.TrimPrefix(c.Listen, tlsScheme)
-	host, _, err := net.SplitHostPort(address)
+	host, port, err := net.SplitHostPort(address)
 	ip := net.ParseIP(host)
 	if err == nil && ip != nil && address == c.Listen {
 		return fmt.Errorf(`"listen" is %q: a port without TLS is not taken, since another program could listen there and grant everything: `+
 			`write unix:/PATH, or %s%s with "tls"`, c.Listen, tlsScheme, c.Listen)
 	}
-	if err != nil || ip == nil || !ip.IsLoopback() {
+	if number, wrong := strconv.ParseUint(port, 10, 16); err != nil || ip == nil || !ip.IsLoopback() || wrong != nil || number == 0 {
 		return fmt.Errorf(`"listen" is %q, and must be unix:/PATH, tls:127.0.0.1:PORT or tls:[::1]:PORT`, c.Listen)
 	}
 	if c.TLS == nil || c.TLS.Certificate == "" || c.TLS.Key == "" {

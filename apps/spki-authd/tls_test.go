@@ -166,6 +166,7 @@ func TestListenSettings(t *testing.T) {
 		listen("tls:127.0.0.1:9180", `"tls": {"certificate": "/c"}`, secret, control): `"tls" is missing`,
 		listen("tls:127.0.0.1:9180", files, secret):                                   `"control"`, listen("tls:192.0.2.1:9180", files, secret, control): "must be",
 		listen("tls:localhost:9180", files, secret, control): "must be", leastWith(files): `"tls" is for a port`,
+		listen("tls:127.0.0.1:", files, secret, control): "must be", listen("tls:[::1]:0", files, secret, control): "must be",
 		listen(long, `"cache": 1`): "at most 107 octets", listen(longControl, `"cache": 1`): `"control"`,
 		leastWith(`"control": "unix:/run/x/s"`): `another one than "listen"`, leastWith(`"control": "/run/x/c"`): "unix:/PATH",
 	} {
