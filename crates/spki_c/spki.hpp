@@ -90,7 +90,7 @@ private:
 
 /* What is asked. The texts are those of spki_question, and must last until `ask` or `decide` returns. `words` has the strings of the
  * request; an array, a vector or another container of std::string_view or std::string will do. A view that makes each string while it is
- * read does not compile: it must have forward iterators, which refer to the strings, or return each as a std::string_view or `const char *`. */
+ * read does not compile: it must have forward iterators, which refer to the strings, or return each as a std::string_view or a `char *`. */
 struct question {
     template <typename Words>
     question(std::string_view sequence, proven_key key, const Words &words, std::chrono::system_clock::time_point now)
@@ -125,7 +125,8 @@ private:
         using word = decltype(*std::declval<Iterator &>());
         if constexpr (std::is_lvalue_reference_v<word>)
             return std::is_base_of_v<std::forward_iterator_tag, typename std::iterator_traits<Iterator>::iterator_category>;
-        return std::is_same_v<word, std::string_view> || std::is_same_v<word, const char *>;
+        return std::is_same_v<std::remove_cv_t<word>, std::string_view> || std::is_same_v<std::decay_t<word>, const char *> ||
+               std::is_same_v<std::decay_t<word>, char *>;
     }
 
     /* The sequence and the key alone. */

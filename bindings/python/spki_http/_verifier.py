@@ -41,7 +41,7 @@ class Nonces(Protocol):
 
     def take(self, key: bytes, nonce: str, now: int, seconds: int) -> None:
         """Keeps a nonce of a key for at least `seconds` from `now`, which is in seconds since 1970. Raises `Refused` if it was
-        used before, or if there is no room."""
+        used before, if there is no room, or if it may be forgotten, since the clock has gone back."""
 
 
 class Memory:

@@ -11,7 +11,7 @@ pub trait TakeNonce {
     /// Keeps a nonce of a key for at least so many seconds from `now`, the time in seconds since 1970.
     ///
     /// # Errors
-    /// If the nonce was used before, or there is no room for it.
+    /// If the nonce was used before, there is no room for it, or it may be forgotten, since the clock has gone back.
     fn take(&self, key: &[u8], nonce: &str, now: u64, seconds: u64) -> Result<(), Unproved>;
 }
 
