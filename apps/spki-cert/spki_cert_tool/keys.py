@@ -301,7 +301,7 @@ def read_private(octets: bytes, asking: Asking) -> Private:
                 raise BadKey(NEEDS_BCRYPT) from None
             is_asked = True
             private = load(octets, asking())
-    except (BadKey, Wrong, KeyboardInterrupt, SystemExit):
+    except (BadKey, Wrong, ImportError, KeyboardInterrupt, SystemExit):
         raise
     # (`cryptography` also raises InvalidTag, and PanicException, which is no Exception)
     except BaseException as fault:

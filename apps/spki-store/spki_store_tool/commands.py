@@ -87,10 +87,14 @@ def add(store: Store, given: argparse.Namespace) -> int:
 
 
 def remove(store: Store, given: argparse.Namespace) -> int:
-    """Removes entries by their numbers. The status is FOUND if one is not there, or if this account may not remove it."""
-    numbers = list(dict.fromkeys(given.numbers))
-    removed = [number for number in numbers if store.remove(number)]
-    print_line(f"entries removed: {len(removed)}")
+    """Removes entries by their numbers. The status is FOUND if one is not there, or if this account may not remove it. If one removal fails, says how
+    many were made before, too."""
+    numbers, removed = list(dict.fromkeys(given.numbers)), []
+    try:
+        for number in numbers:
+            removed += [number] if store.remove(number) else []
+    finally:
+        print_line(f"entries removed: {len(removed)}")
     for number in sorted(set(numbers) - set(removed)):
         is_there = store.rows("SELECT 1 FROM {entries} WHERE number = %s", number)
         tell(f"entry {number} {'still counts: this account may not remove it' if is_there else 'is not there'}")
@@ -98,10 +102,16 @@ def remove(store: Store, given: argparse.Namespace) -> int:
 
 
 def end(store: Store, given: argparse.Namespace) -> int:
-    """Ends certificates by their SHA-256 digests, and says how many had not ended before. Raises Wrong before any is ended if a word is no digest."""
+    """Ends certificates by their SHA-256 digests, and says how many had not ended before, also if the next one fails. Raises Wrong before any is
+    ended if a word is no digest."""
     if wrong := [digest for digest in given.digests if not DIGEST.match(digest)]:
         raise Wrong(f"{wrong[0]!r} is no digest of 64 hexadecimal digits in small letters")
-    print_line(f"certificates ended: {sum(store.end(bytes.fromhex(digest), given.remark) for digest in given.digests)}")
+    count = 0
+    try:
+        for digest in given.digests:
+            count += store.end(bytes.fromhex(digest), given.remark)
+    finally:
+        print_line(f"certificates ended: {count}")
     return DONE
 
 
@@ -229,8 +239,9 @@ def main(words: Sequence[str] | None = None) -> int:
                 sys.stdout.flush()
             return status
         except psycopg.errors.LockNotAvailable:
-            held = ", ".join(f"process {number} of {account!r}" for number, account in store.holders()) or "it has ended now"
-            tell(f"the store is held by an open transaction, which an administrator can end by pg_terminate_backend: {held}")
+            held = ", ".join(f"process {number} of {account!r}" for number, account in store.holders()) or "none is found now"
+            tell(f"the store is held by an open transaction, which an administrator can end by pg_terminate_backend, unless it waits for a replica"
+                 f" (wait_event SyncRep): {held}")
             return FAILED
         finally:
             store.close()

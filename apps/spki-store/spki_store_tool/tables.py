@@ -134,7 +134,7 @@ class Store:
         and does not wait itself."""
         return self.rows("SELECT DISTINCT a.pid, a.usename::text FROM pg_locks l JOIN pg_class c ON c.oid = l.relation"
                          " JOIN pg_stat_activity a USING (pid) WHERE a.datname = current_database() AND a.pid <> pg_backend_pid()"
-                         " AND c.relnamespace = %s::regnamespace AND c.relname IN ('entries', 'ended', 'state')"
+                         " AND c.relnamespace = to_regnamespace(%s) AND c.relname IN ('entries', 'ended', 'state', 'changes', 'imports')"
                          " AND l.mode NOT IN ('AccessShareLock', 'ShareUpdateExclusiveLock')"
                          " AND NOT EXISTS (SELECT FROM pg_locks w WHERE w.pid = l.pid AND NOT w.granted)", self.schema)
 

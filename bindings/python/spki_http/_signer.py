@@ -138,8 +138,8 @@ class Handler(_SignsForHosts, urllib.request.BaseHandler):
         """Adds the fields of `Signer.fields` if the request goes to one of the hosts. Returns the request. `urllib` calls it for each request.
         Raises `TypeError` for a body that is not `bytes`, such as a stream, and what `Signer.fields` raises. A redirected request gets none of
         these fields from the first one."""
-        # (`urllib` sets `unverifiable` in a request that follows a redirection)
-        is_redirected_to_http = request.type == "http" and request.unverifiable
+        # (`urllib` sets `unverifiable` in a request that follows a redirection. Behind a proxy `type` is the proxy's scheme)
+        is_redirected_to_http = urllib.parse.urlsplit(request.full_url).scheme == "http" and request.unverifiable
         if self._is_to_host(request.full_url) and not is_redirected_to_http:
             body = request.data or b""
             if not isinstance(body, bytes):
