@@ -60,8 +60,8 @@ func main() {
 }
 
 // replaceClosed opens /dev/null in place of standard input, output and error where they are closed. Otherwise the file that is opened next has the
-// number of one of them, and what is printed is written to that file, such as the log of grants. Since it is opened for reading alone, printing fails
-// as before. It fails if /dev/null cannot be opened.
+// number of one of them, and what is printed is written to that file, such as the log of grants. It is opened for reading alone, so that printing fails
+// as before. (From Go 1.21 on the runtime opens it before, for writing too.) It fails if /dev/null cannot be opened.
 func replaceClosed() error {
 	for number := 0; number <= 2; number++ {
 		var about syscall.Stat_t

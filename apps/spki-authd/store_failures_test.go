@@ -84,7 +84,7 @@ func newTimeline(t *testing.T) *timeline {
 // an error it is not known whether the transaction was committed. Its connection is closed then, and another server is asked the next time.
 func (l *timeline) transact(texts []string, values ...driver.Value) (rows [][]driver.Value, err error) {
 	writer := l.writers[l.writerAt]
-	taken, err := writer.take()
+	taken, err := writer.take(writer.patience)
 	if err != nil {
 		l.writerAt = (l.writerAt + 1) % len(l.writers)
 		return nil, err

@@ -75,8 +75,9 @@ const (
 	lastChange   = " LEFT JOIN @.changes c ON c.number = s.changes"
 )
 
-// openReader returns what reads a store. A call takes no longer than `patience`, from the wait for a free connection on. A poll waits no longer than
-// that until it is connected, and for each read and each write. It connects when it is asked first. The error says that the settings are wrong.
+// openReader returns what reads a store. A call takes no longer than `patience`, and waits no longer than half of that for a free connection. A poll
+// waits no longer than `patience` until it is connected, and for each read and each write. It connects when it is asked first. The error says that
+// the settings are wrong.
 func openReader(options *storeSettings, patience time.Duration) (reader, error) {
 	connector, err := pq.NewConnector(options.connectionString())
 	if err != nil {
@@ -140,9 +141,10 @@ func (p *pool) renew() {
 }
 
 // take takes a connection from a slot, or opens a new one. The caller puts it into p.slots again, or nil after closing it. It fails if no slot is free
-// within p.patience, or if it cannot connect by then. Then the caller puts nothing back. What the connection is asked must be answered by then too.
-func (p *pool) take() (*link, error) {
-	until, timer := time.Now().Add(p.patience), time.NewTimer(p.patience)
+// within `wait`, or if it cannot connect within p.patience. Then the caller puts nothing back. What the connection is asked must be answered within
+// p.patience too.
+func (p *pool) take(wait time.Duration) (*link, error) {
+	until, timer := time.Now().Add(p.patience), time.NewTimer(wait)
 	defer timer.Stop()
 	var taken *link
 	select {
@@ -172,11 +174,16 @@ func (p *pool) take() (*link, error) {
 // valid during that call alone. It fails as take does. It also fails, closes the connection and renews the others, if the function fails, or if the
 // server refuses the statement or does not answer within p.patience of the call (for a poll: of each read and write). After errMany it renews none.
 func (p *pool) ask(number int, use func(row []driver.Value) error, values ...driver.Value) error {
-	link, err := p.take()
+	isPoll, wait := number == askChangesSince || number == askAllEnded, p.patience
+	if !isPoll {
+		// (so that time is left for the answer: a connection whose answer is late is closed, and opening it again makes other requests late)
+		wait /= 2
+	}
+	link, err := p.take(wait)
 	if err != nil {
 		return err
 	}
-	if number == askChangesSince || number == askAllEnded {
+	if isPoll {
 		// (no request waits for a poll, which may have millions of ended certificates to read)
 		link.until = time.Time{}
 	}

@@ -97,7 +97,7 @@ func (l *link) forget(number int) error {
 
 // runStatement runs a statement, in which %s is the schema, and returns the first value of its row. It reports an error: then the result has no meaning.
 func (r *changingStore) runStatement(text string, values ...driver.Value) (first int64) {
-	link, err := r.writer.take()
+	link, err := r.writer.take(r.writer.patience)
 	if err != nil {
 		r.t.Error(err)
 		return 0

@@ -195,7 +195,7 @@ func (a *visitor) askFor(number int) {
 // runAt runs a statement on a connection of a pool. It closes that, and gives no slot back: the pool has one less then. `values` are those of the
 // statement's $1 and so on. It fails as pool.take and link.ask do.
 func runAt(writer *pool, text string, values ...driver.Value) error {
-	link, err := writer.take()
+	link, err := writer.take(writer.patience)
 	if err != nil {
 		return err
 	}
