@@ -24,7 +24,7 @@ type ledger struct {
 	// Its path, and syncNever, syncSeconds or syncEach.
 	path, syncs string
 	file        file
-	// The octets of the file before the lines that are written now, and whether the file ends with a part of a line that could not be removed.
+	// The octets of the file before the lines that are written now, and whether it may end with a part of a line, which could not be removed.
 	whole int64
 	isCut bool
 	// Whether lines are written since the last fsync by `beat` that did not fail, and the last error of one that no write has reported yet, or nil.
@@ -133,8 +133,8 @@ func syncFolder(path string) error {
 	return folder.Sync()
 }
 
-// write writes lines, each with its line feed. After an error none of them counts: what was written of them is cut off again. If that fails too, isCut has
-// the next lines begin behind a line feed.
+// write writes lines, each with its line feed. After an error it cuts off again what was written of them. If that fails too, this stays, although none of
+// them was granted, and isCut has the next lines begin behind a line feed.
 func (l *ledger) write(lines []byte) error {
 	if err := l.prepare(); err != nil {
 		return err

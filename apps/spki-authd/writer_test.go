@@ -219,7 +219,8 @@ func TestCutLines(t *testing.T) {
 	}
 }
 
-// TestReaderThatIsGone writes a line to a pipe that is read, and one after its reader is gone: that line counts as failed, and the process goes on.
+// TestReaderThatIsGone writes a line to a pipe that is read, and one after its reader is gone: that line counts as failed. Each offer waits until its line
+// is written or fails.
 func TestReaderThatIsGone(t *testing.T) {
 	reader, pipe, err := os.Pipe()
 	if err != nil {
@@ -237,6 +238,6 @@ func TestReaderThatIsGone(t *testing.T) {
 	reader.Close()
 	writer.offer([]byte("two\n"))
 	if writer.failed.Load() != 1 {
-		t.Errorf("%d lines are counted as lost", writer.failed.Load())
+		t.Errorf("%d lines are counted as failed", writer.failed.Load())
 	}
 }

@@ -1,4 +1,4 @@
-/* http_request.h says what it is for. Nothing is copied but the key, the digest and the signed text.
+/* http_request.h says what it is for. Nothing is copied but the key, the digest, the signature and the signed text.
  *
  * By RFC 9421 a request has the fields `Signature-Input: spki=("@method" "x-a" ..);created=1;..` and `Signature: spki=:BASE64:`. Here `spki` is the
  * label, the strings name the components that the signature covers, parts of the request as its method or a field, and parameters follow.

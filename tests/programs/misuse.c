@@ -1,7 +1,7 @@
-/* Makes each call of `spki.h` with each of its arguments null with a length, too long, or of another size, which must be misuse that changes
- * nothing but the first octet of a buffer, with a handle of the other kind, and with what may be null. What no call can see is the caller's duty:
- * a handle that was closed, or is of another library. Is linked with --wrap=malloc and --wrap=realloc. Ends with 99 where a call does otherwise,
- * with a line on standard error. */
+/* Makes each call of `spki.h` with each of its arguments null with a length, too long, or of another size, with a handle of the other kind, and with
+ * what may be null. The first must be misuse: that empties what a call gives back, as a line, its length or a handle, and changes nothing else. What
+ * no call can see is the caller's duty: a handle that was closed, or is of another library. Is linked with --wrap=malloc and --wrap=realloc. Ends
+ * with 99 where a call does otherwise, with a line on standard error. */
 #include "cguard.h"
 
 enum { UNTOUCHED = 0x5a };

@@ -295,7 +295,7 @@ class OfPassphrases(CommandTest):
 
     @needs.needs("openssl")
     def test_encrypted_keys_are_refused_without_a_terminal(self):
-        """Without a terminal, where the passphrase is typed, no encrypted key is read or made. A new session has no terminal."""
+        """Without a terminal, where the passphrase is typed, no encrypted key is read or made. `start_new_session` takes it away."""
         self.make_pem_key("key.pem", "ed25519", "-aes-256-cbc", "-pass", "pass:sesame")
         done = subprocess.run([sys.executable, COMMAND, "key", "key.pem"], cwd=self.room, stdin=subprocess.DEVNULL, capture_output=True,
                               text=True, start_new_session=True)

@@ -83,7 +83,8 @@ class Records(unittest.TestCase):
     """What the deep run has recorded."""
 
     def test_what_a_record_covers(self) -> None:
-        """The checksum of a record covers contracts and ghost members, such as views, which `heads` finds in a text, but no other body or remark."""
+        """The checksum of a record covers heads of functions with their contracts, and ghost members, such as views, but no other body and no remark:
+        `heads` finds these in a text by the patterns of `records`."""
         def heads(text: str) -> list[str]:
             return [found[0] for pattern in (records.HEAD, records.GHOST) for found in pattern.finditer(records.REMARK.sub("", text))]
 
