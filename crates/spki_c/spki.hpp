@@ -144,11 +144,11 @@ public:
     explicit operator bool() const noexcept { return result.status == SPKI_YES; }
 
     /* From its own moment to this second the same question is granted, if the same signatures are valid: it is the least `not-after` of the
-     * entry and of all certificates. After it another entry may grant it. Nothing if no window ends, and for a no. A second that the clock
-     * does not have becomes the nearest that it has: the clock of GCC ends in 2262. */
+     * entry and of all certificates. After it another entry may grant it. Nothing if no window ends before the end of the year 9999, and for a
+     * no. A second that the clock does not have becomes the nearest that it has: the clock of GCC ends in 2262. */
     std::optional<time> until() const noexcept
     {
-        if (!*this || result.until == INT64_MAX)
+        if (!*this || result.until >= INT64_C(253402300799))
             return std::nullopt;
         // (time::min() lies within its second, whose beginning the clock does not have)
         const auto first = seconds_of(time::min()) + 1, last = seconds_of(time::max());

@@ -621,7 +621,7 @@ func TestAClockThatFailed(t *testing.T) {
 }
 
 // TestUntil keeps a grant. It holds up to the not-after of the entry, and no second longer: the same question, asked again, has the same answer. A
-// grant without a window holds longer, but not before 1970. A no never holds.
+// grant without a window holds till the year 9999 ends, after which no question is answered, but not before 1970. A no never holds.
 func TestUntil(t *testing.T) {
 	ending := openGuard(t, `(acl (entry (public-key (test a)) (propagate) (tag (*)) (not-after "2026-06-30_23:59:59")))`)
 	last, question := time.Date(2026, 6, 30, 23, 59, 59, 0, time.UTC), questionWith(1)
@@ -638,6 +638,12 @@ func TestUntil(t *testing.T) {
 	endless, err := openGuard(t, list).Decide(questionWith(1), acceptAll)
 	if err != nil || !endless.Until().IsZero() || !endless.HoldsAt(last.Add(time.Second)) || endless.HoldsAt(time.Unix(-1, 0)) {
 		t.Errorf("%v, %v", endless, err)
+	}
+	for second, holds := range map[int64]bool{253_402_300_799: true, 253_402_300_800: false} {
+		question.Time = time.Unix(second, 999_999_999)
+		if asked, _ := openGuard(t, list).Decide(question, acceptAll); asked.Granted() != holds || endless.HoldsAt(question.Time) != holds {
+			t.Errorf("%d: %v, %v", second, asked, endless.HoldsAt(question.Time))
+		}
 	}
 	no, err := ending.Decide(questionWith(1), acceptNone)
 	if err != nil || !no.Until().IsZero() || no.HoldsAt(last) || (guard.Decision{}).HoldsAt(last) {

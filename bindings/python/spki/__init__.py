@@ -524,9 +524,9 @@ def _entry_of(grant: Grant | None) -> int:
 
 @functools.lru_cache(1024)
 def _grant_of(line: bytes, until: int) -> Grant:
-    """The grant of a line `yes entry N`. `until` is its last second since 1970, or `_library.ENDLESS`. A grant does not
-    change, so one that was made is used again."""
-    return Grant(int(line[len("yes entry "):]), None if until == _library.ENDLESS else moment_of(until))
+    """The grant of a line `yes entry N`. `until` is its last second since 1970. A grant does not change, so one that was
+    made is used again."""
+    return Grant(int(line[len("yes entry "):]), None if until >= _library.LAST_SECOND else moment_of(until))
 
 
 def _raise_unless_done(status: int, answer: bytes) -> None:

@@ -232,8 +232,8 @@ impl Asked {
     }
 }
 
-/// The grant of a line `yes entry N`. `until` is its last second since 1970, or `i64::MAX` if no window ends. Another line is a refusal as misused:
-/// the library is not the one that was expected.
+/// The grant of a line `yes entry N`. `until` is its last second since 1970. Another line is a refusal as misused: the library is not the one that
+/// was expected.
 fn grant_of(line: &[u8], until: i64) -> Result<Grant, Refusal> {
     line_of(line)
         .strip_prefix("yes entry ")

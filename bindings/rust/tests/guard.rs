@@ -442,7 +442,8 @@ fn a_moment_before_1970_or_past_9999_is_refused() {
     );
 }
 
-/// A grant holds till the least window ends, and no second longer. Here that is the entry's, whose last second is 1,782,863,999.
+/// A grant holds till the least window ends, and no second longer. Here that is the entry's, whose last second is 1,782,863,999. A grant without a
+/// window holds till the year 9999 ends, as a question can be asked.
 #[test]
 fn a_grant_says_until_when_it_holds() -> Outcome {
     let sequence = sequence_of(1);
@@ -465,10 +466,16 @@ fn a_grant_says_until_when_it_holds() -> Outcome {
     }
     assert!(!grant.holds_at(UNIX_EPOCH - Duration::from_nanos(1)));
     let endless = guard(LIST).decide(&question_showing(&sequence), accept)?;
-    assert_eq!(
-        (endless.until, endless.holds_at(last + second)),
-        (None, true)
-    );
+    assert_eq!(endless.until, None);
+    let end = UNIX_EPOCH + Duration::from_secs(253_402_300_800);
+    for (time, holds) in [
+        (last + second, true),
+        (end - Duration::from_millis(1), true),
+        (end, false),
+    ] {
+        let asked = guard(LIST).decide(&Question::new(&sequence, proven(KEY), WORDS, time), accept);
+        assert_eq!((endless.holds_at(time), asked.is_ok()), (holds, holds));
+    }
     Ok(())
 }
 
