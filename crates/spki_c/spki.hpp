@@ -15,7 +15,6 @@
 #include <algorithm>
 #include <chrono>
 #include <cstring>
-#include <iterator>
 #include <memory>
 #include <optional>
 #include <stdexcept>
@@ -88,51 +87,45 @@ private:
     std::shared_ptr<const std::string> octets;
 };
 
-/* What is asked. The texts are those of spki_question, and must last until `ask` or `decide` returns. `words` has the strings of the
- * request; an array, a vector or another container of std::string_view or std::string will do. A view that makes each string while it is
- * read does not compile: it must have forward iterators, which refer to the strings, or return each as a std::string_view or a `char *`. */
+/* What is asked. It owns its octets, so it may be kept and asked later. Copies share them, and a move is a copy. `words` has the strings of the
+ * request; an array, a vector or another container of std::string_view or std::string will do. */
 struct question {
     template <typename Words>
     question(std::string_view sequence, proven_key key, const Words &words, std::chrono::system_clock::time_point now)
         : key(std::move(key)), seconds(std::chrono::floor<std::chrono::seconds>(now).time_since_epoch().count())
     {
-        using std::begin;
-        static_assert(reads_lasting_words<std::decay_t<decltype(begin(words))>>(),
-                      "a string that is made while it is read does not last until the question is asked");
-        for (std::string_view word : words)
-            strings.push_back(text_of(word));
-        // (one that does not count, so that the address is not null where there is no string: null would mean that the request is a text)
-        strings.push_back({nullptr, 0});
-        parts.sequence = text_of(sequence);
-        parts.key = spki_assume_key(text_of(this->key.text()));
+        std::vector<std::string> copied{std::string(sequence)};
+        for (const auto &word : words) {
+            const std::string_view octets = word;
+            copied.emplace_back(octets);
+        }
+        owned = std::make_shared<const std::vector<std::string>>(std::move(copied));
+        for (const std::string &octets : *owned)
+            texts.push_back(text_of(octets));
     }
+    question(const question &) = default;
+    question &operator=(const question &) = default;
 
     /* The question as spki_guard_ask takes it. It lasts as long as this object. */
-    spki_question lent() const noexcept
+    spki_question lent() const && = delete;
+    spki_question lent() const & noexcept
     {
-        spki_question lent = parts;
+        spki_question lent{};
         lent.size = sizeof lent;
-        lent.words = strings.data();
-        lent.word_count = strings.size() - 1;
+        lent.sequence = texts.front();
+        lent.key = spki_assume_key(text_of(key.text()));
+        // (never null, also where there is no string: null would mean that the request is a text)
+        lent.words = texts.data() + 1;
+        lent.word_count = texts.size() - 1;
         lent.seconds = &seconds;
         return lent;
     }
 
 private:
-    /* Whether what an iterator reads outlasts it. An iterator that reads once, as std::istream_iterator, may refer to a string in itself. */
-    template <typename Iterator> static constexpr bool reads_lasting_words()
-    {
-        using word = decltype(*std::declval<Iterator &>());
-        if constexpr (std::is_lvalue_reference_v<word>)
-            return std::is_base_of_v<std::forward_iterator_tag, typename std::iterator_traits<Iterator>::iterator_category>;
-        return std::is_same_v<std::remove_cv_t<word>, std::string_view> || std::is_same_v<std::decay_t<word>, const char *> ||
-               std::is_same_v<std::decay_t<word>, char *>;
-    }
-
-    /* The sequence and the key alone. */
-    spki_question parts{};
     proven_key key;
-    std::vector<spki_text> strings;
+    /* The sequence, and then the strings of the request; and where they are. */
+    std::shared_ptr<const std::vector<std::string>> owned;
+    std::vector<spki_text> texts;
     std::int64_t seconds;
 };
 

@@ -4,6 +4,8 @@
 
 #include <array>
 #include <cstdio>
+#include <iterator>
+#include <sstream>
 #include <string>
 #include <thread>
 #include <utility>
@@ -82,6 +84,28 @@ static int opened_question()
     moved.mark(0);
     CHECK(moved.decide() && moved.decide() && moved.explain() == "entry 1 grants\n");
     CHECK(moved.reduce() == "entry 1 (five (subject (public-key (test b))) (tag (*)))\n");
+    return 0;
+}
+
+// Words of a text, which are made while they are read.
+struct typed {
+    std::istream &text;
+    std::istream_iterator<std::string> begin() const { return {text}; }
+    std::istream_iterator<std::string> end() const { return {}; }
+};
+
+// A question owns its octets: all that it was made of may end before it is asked, and so may the one that it is a copy of.
+static int kept_questions()
+{
+    const std::string path = "/builds/a-path-that-is-too-long-to-be-inside-of-a-string";
+    const spki::guard guard("(acl (entry (public-key (test a)) (propagate) (tag (files " + path + "))))");
+    auto made = std::make_unique<spki::question>(std::string(sequence), key, std::vector<std::string>{"files", path}, now);
+    const spki::question moved = std::move(*made);
+    CHECK(guard.decide(*made, is_sig));
+    made.reset();
+    CHECK(guard.decide(moved, is_sig));
+    std::istringstream text("files " + path), other_text("files /builds/x");
+    CHECK(guard.decide({sequence, key, typed{text}, now}, is_sig) && !guard.decide({sequence, key, typed{other_text}, now}, is_sig));
     return 0;
 }
 
@@ -238,6 +262,6 @@ static int threads()
 
 int main()
 {
-    return decisions() || opened_question() || two_clients() || equal_signatures() || kept_decisions() || impossible_requests()
+    return decisions() || opened_question() || kept_questions() || two_clients() || equal_signatures() || kept_decisions() || impossible_requests()
            || moved_handles() || refusals() || logins() || literals() || threads();
 }
