@@ -208,8 +208,8 @@ class OpenedQuestions(unittest.TestCase):
         """Two clients at once: what is marked for b grants nothing to c, and nothing to b in a question that is opened later."""
         good, bad = self.guard.ask(new_question()), self.guard.ask(new_question(FORGED, b"(public-key (test c))"))
         self.assertTrue(good.is_possible and bad.is_possible)
-        for opened in (good, bad):
-            opened.verify(lambda signature: signature.value == b"3:sig")
+        for opened, valid_count in ((good, 1), (bad, 0)):
+            self.assertEqual(opened.verify(lambda signature: signature.value == b"3:sig"), valid_count)
         self.assertEqual((good.decide(), bad.decide()), (spki.Grant(1), None))
         again = self.guard.ask(new_question())
         self.assertEqual(again.decide(), None)
@@ -370,8 +370,8 @@ class OpenedQuestions(unittest.TestCase):
         signature = _library.signature
         with mock.patch.object(_library, "signature", lambda handle, place, at: places.append(place.value) or signature(handle, place, at)):
             self.assertEqual((next(iter(opened)), places), (SIGNED, [0]))
-            opened.verify(lambda signature: len(places) < 4)
-        self.assertEqual(places, [0, 0, 1, 2])
+            valid_count = opened.verify(lambda signature: len(places) < 4)
+        self.assertEqual((places, valid_count), ([0, 0, 1, 2], 2))
 
     def test_each_text_is_copied_once(self):
         """Of each signature the key, the message and the value are copied once each: three slices of `_library.memory`, whose mock copies by another
@@ -725,10 +725,10 @@ class Guards(unittest.TestCase):
 
     def test_closing_in_another_thread(self):
         """A guard and a question may be closed while another thread makes one of `calls` again and again: this answers as before, or raises
-        ValueError. Each row says whether the answer is the right one: `verify` and `mark` return None."""
+        ValueError. Each row says whether the answer is the right one: `mark` returns None."""
         calls = {"entries": lambda guard, opened: guard.entries == 1, "decide": lambda guard, opened: bool(guard.decide(new_question(), accept_all)),
                  "count": lambda guard, opened: len(opened) == 1, "signatures": lambda guard, opened: opened.signatures()[0] == SIGNED,
-                 "verify": lambda guard, opened: opened.verify(accept_all) is None, "ask": lambda guard, opened: len(guard.ask(new_question())) == 1,
+                 "verify": lambda guard, opened: opened.verify(accept_all) == 1, "ask": lambda guard, opened: len(guard.ask(new_question())) == 1,
                  "mark": lambda guard, opened: opened.mark(0) is None, "is_possible": lambda guard, opened: opened.is_possible,
                  "decide by marks": lambda guard, opened: opened.mark(0) is None and opened.decide() == spki.Grant(1),
                  "explain": lambda guard, opened: str(guard.explain(new_question(), accept_all)) == "entry 1 grants",

@@ -173,6 +173,11 @@ inline void require_done(spki_status status, const char *line = "", std::size_t 
         throw std::logic_error("a call of libspki_c is misused or got no memory, or the library is of another version than spki.hpp");
 }
 
+/* How many signatures of a question are valid. It is no yes, also if all are: `decide` answers. */
+struct [[nodiscard]] valid_count {
+    std::size_t number;
+};
+
 /* A question that was read, with a mark for each signature that is found valid. */
 class asked {
 public:
@@ -194,11 +199,14 @@ public:
     /* Whether the request would be granted if all signatures were valid. If not, none has to be verified. True grants nothing. */
     bool possible() const noexcept { return spki_asked_possible(handle.get()); }
 
-    /* Marks each signature that is valid, in order, up to the first that is not. If `verify` throws, those before stay marked. */
-    template <typename Verify> void verify(Verify &&verify)
+    /* Marks each signature that is valid, in order, up to the first that is not, and returns how many these are, of `size()`. If `verify`
+     * throws, those before stay marked. */
+    template <typename Verify> valid_count verify(Verify &&verify)
     {
-        for (std::size_t place = 0; place < size() && is_valid(verify, signature(place)); place++)
+        std::size_t place = 0;
+        for (; place < size() && is_valid(verify, signature(place)); place++)
             mark(place);
+        return {place};
     }
 
     /* Whether the request is granted, if exactly the marked signatures are valid. A no too if the library gets no memory. */
@@ -274,7 +282,7 @@ public:
     {
         spki::asked asked = ask(question);
         if (asked.possible())
-            asked.verify(verify);
+            (void)asked.verify(verify);
         return asked.decide();
     }
 

@@ -117,8 +117,7 @@ static int two_clients()
                                " (public-key (test a)) forged))";
     spki::guard guard(list);
     spki::asked good = guard.ask({sequence, key, words, now}), bad = guard.ask({forged, other, words, now});
-    good.verify(is_sig);
-    bad.verify(is_sig);
+    CHECK(good.verify(is_sig).number == 1 && bad.verify(is_sig).number == 0);
     CHECK(good.decide() && !bad.decide());
     std::swap(good, bad);
     CHECK(bad.decide() && !good.decide());
@@ -180,8 +179,7 @@ static int moved_handles()
     spki::guard guard(list);
     spki::asked asked = guard.ask({sequence, key, words, now});
     const spki::asked other = std::move(asked);
-    asked.verify(is_sig);
-    CHECK(asked.size() == 0 && !asked.decide());
+    CHECK(asked.verify(is_sig).number == 0 && asked.size() == 0 && !asked.decide());
     CHECK(is_misuse([&] { asked.signature(0); }) && is_misuse([&] { asked.mark(0); }));
     CHECK(is_misuse([&] { asked.explain(); }) && is_misuse([&] { asked.reduce(); }));
     spki::proven_key client = key;
@@ -236,7 +234,7 @@ static int threads()
 {
     auto guard = std::make_unique<spki::guard>(list);
     spki::asked marked = guard->ask({sequence, key, words, now});
-    marked.verify(is_sig);
+    (void)marked.verify(is_sig);
     const spki::asked shared = std::move(marked);
     std::array<int, 4> granted{};
     std::vector<std::thread> asking, ending;
@@ -249,8 +247,7 @@ static int threads()
         thread.join();
     for (int &count : granted)
         ending.emplace_back([&count, own = guard->ask({sequence, key, words, now})]() mutable {
-            own.verify(is_sig);
-            count += own.decide() ? 1 : 0;
+            count += own.verify(is_sig).number == 1 && own.decide() ? 1 : 0;
         });
     guard.reset();
     for (std::thread &thread : ending)

@@ -187,7 +187,7 @@ func (g *Guard) decide(question *Question, verify Verify) (Decision, error) {
 	}
 	defer asked.Close()
 	if asked.isWorthVerifying() {
-		if err := asked.Verify(verify); err != nil {
+		if _, err := asked.Verify(verify); err != nil {
 			return Decision{}, err
 		}
 	}
@@ -211,7 +211,7 @@ func (g *Guard) decideContext(ctx context.Context, question *Question, verify Ve
 		return Decision{}, err
 	}
 	if asked.isWorthVerifying() {
-		if err := asked.VerifyContext(ctx, verify); err != nil {
+		if _, err := asked.VerifyContext(ctx, verify); err != nil {
 			return Decision{}, fmt.Errorf("a signature could not be verified: %w", err)
 		}
 	}
@@ -239,7 +239,7 @@ func (g *Guard) Explain(question Question, verify Verify) (Explanation, error) {
 		return Explanation{}, err
 	}
 	defer asked.Close()
-	if err := asked.Verify(verify); err != nil {
+	if _, err := asked.Verify(verify); err != nil {
 		return Explanation{}, err
 	}
 	return asked.Explain()
@@ -253,7 +253,7 @@ func (g *Guard) Reduce(question Question, verify Verify) (string, error) {
 		return "", err
 	}
 	defer asked.Close()
-	if err := asked.Verify(verify); err != nil {
+	if _, err := asked.Verify(verify); err != nil {
 		return "", err
 	}
 	return asked.Reduce()

@@ -270,10 +270,10 @@ func TestMarksAreOfOneQuestion(t *testing.T) {
 	opened, question := openGuard(t, list), questionWith(0)
 	question.Sequence, question.Key = []byte("(sequence "+forgedForC+")"), spki.AssumeKey([]byte("(public-key (test c))"))
 	good, bad, unmarked := askAndMark(t, opened, questionWith(1)), askAndMark(t, opened, question), askAndMark(t, opened, questionWith(1))
-	for _, asked := range []*guard.Asked{good, bad} {
-		err := asked.Verify(func(signature guard.Signature) bool { return string(signature.Value) == "3:sig" })
-		if err != nil || !asked.Possible() {
-			t.Error(err)
+	for asked, wanted := range map[*guard.Asked]int{good: 1, bad: 0} {
+		valid, err := asked.Verify(func(signature guard.Signature) bool { return string(signature.Value) == "3:sig" })
+		if err != nil || valid != wanted || !asked.Possible() {
+			t.Errorf("%d valid, %v", valid, err)
 		}
 	}
 	if !isGranted(t, good) || isGranted(t, bad) || isGranted(t, unmarked) {
@@ -329,14 +329,14 @@ func TestVerifierThatFailsMarksNothing(t *testing.T) {
 	question, fault := questionWith(0), errors.New("no such key")
 	question.Sequence, question.Key = []byte("(sequence "+forA+forA+")"), spki.AssumeKey([]byte("(public-key (test a))"))
 	asked, calls := askAndMark(t, openGuard(t, list), question), 0
-	err := asked.VerifyContext(context.Background(), func(context.Context, guard.Signature) (bool, error) {
+	valid, err := asked.VerifyContext(context.Background(), func(context.Context, guard.Signature) (bool, error) {
 		if calls++; calls == 2 {
 			return true, fault
 		}
 		return true, nil
 	})
-	if !errors.Is(err, fault) || calls != 2 {
-		t.Errorf("%v, %d calls", err, calls)
+	if !errors.Is(err, fault) || valid != 0 || calls != 2 {
+		t.Errorf("%v, %d valid, %d calls", err, valid, calls)
 	}
 	if err := asked.Mark(1); err != nil || isGranted(t, asked) {
 		t.Error(err)

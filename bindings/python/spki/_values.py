@@ -270,11 +270,17 @@ def _question_of(sequence: bytes, key: ProvenKey, words: Sequence[bytes] | None,
 
 
 class NoDecision:
-    """What grants nothing, and so is false: an `Asked`, an `Explanation` or a `Reduction` that is tested like a decision is no yes."""
+    """What grants nothing, and so is false: an `Asked`, a `ValidCount`, an `Explanation` or a `Reduction` that is tested like a decision is no
+    yes."""
 
     def __bool__(self) -> bool:
         """False: what is no decision grants nothing."""
         return False
+
+
+class ValidCount(NoDecision, int):
+    """How many signatures of an `Asked` its `verify` has marked as valid. It is no yes, and so is false, also if that is all of them:
+    `Asked.decide` answers."""
 
 
 @dataclass(frozen=True)

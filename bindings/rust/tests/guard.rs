@@ -9,7 +9,7 @@
 
 use spki::{
     Asked, Cause, Denied, Explanation, Fault, Grant, Guard, Limits, Moment, NotProved, Part,
-    Policy, ProvenKey, Question, Refusal, Request, Scheme, Signature,
+    Policy, ProvenKey, Question, Refusal, Request, Scheme, Signature, ValidCount,
 };
 use std::error::Error;
 use std::fmt;
@@ -107,11 +107,11 @@ fn a_verifier_is_not_called_behind_the_first_wrong_signature() -> Outcome {
     let guard = guard(LIST);
     let mut asked = guard.ask(&question_showing(sequence.as_bytes()))?;
     let mut calls = 0;
-    asked.verify(|signature| {
+    let valid = asked.verify(|signature| {
         calls += 1;
         signature.value == b"3:sig"
     })?;
-    assert_eq!(calls, 2);
+    assert_eq!((calls, valid), (2, ValidCount(1)));
     let explanation = asked.explain()?;
     assert_eq!(lines(&explanation), [(None, Some(3), "NotAccepted")]);
     Ok(())
@@ -157,8 +157,9 @@ fn marks_are_of_one_question() -> Outcome {
         NOW,
     ))?;
     assert!(good.is_possible() && bad.is_possible());
-    for asked in [&mut good, &mut bad] {
-        asked.verify(|signature| signature.value == b"3:sig")?;
+    for (asked, valid) in [(&mut good, 1), (&mut bad, 0)] {
+        let verified = asked.verify(|signature| signature.value == b"3:sig")?;
+        assert_eq!(verified, ValidCount(valid));
     }
     assert_eq!(
         (good.decide().is_ok(), bad.decide()),
