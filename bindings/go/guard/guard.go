@@ -19,6 +19,9 @@
 //
 // A yes holds from its moment to Until, and a no for its moment alone.
 //
+// Any number of goroutines may call. At the same time so many calls of the library last, each with a thread of the system: twice the processors that
+// Go has at the start, and 56. The others wait. No call waits for a verifier, which may call this package too.
+//
 // The library's decisions are proved. The lines of this module are tested and not proved.
 //
 // The static library of this repository is linked. CGO_CFLAGS=-I and CGO_LDFLAGS=-L name another folder of spki.h and libspki_c.a. With the
