@@ -208,8 +208,8 @@ class OpenedQuestions(unittest.TestCase):
         """Two clients at once: what is marked for b grants nothing to c, and nothing to b in a question that is opened later."""
         good, bad = self.guard.ask(new_question()), self.guard.ask(new_question(FORGED, b"(public-key (test c))"))
         self.assertTrue(good.is_possible and bad.is_possible)
-        for opened in (good, bad):
-            opened.verify(lambda signature: signature.value == b"3:sig")
+        for opened, valid_count in ((good, 1), (bad, 0)):
+            self.assertEqual(opened.verify(lambda signature: signature.value == b"3:sig"), valid_count)
         self.assertEqual((good.decide(), bad.decide()), (spki.Grant(1), None))
         again = self.guard.ask(new_question())
         self.assertEqual(again.decide(), None)
@@ -301,7 +301,7 @@ class OpenedQuestions(unittest.TestCase):
 
     def test_a_grant_says_until_when_it_holds(self):
         """A grant holds till the least window ends, here that of the entry, and no second longer. What is no `datetime` with a time zone is a
-        `TypeError`. Without a window a grant holds at each moment from 1970 on."""
+        `TypeError`. Without a window a grant holds at each moment from 1970 on till the year 9999 ends, in UTC: a later one is refused."""
         last, second = datetime(2026, 6, 30, 23, 59, 59, tzinfo=timezone.utc), timedelta(seconds=1)
         ending = spki.Guard(LIST.replace(b"(tag (*))", b'(tag (*)) (not-after "2026-06-30_23:59:59")'))
         grant = ending.decide(new_question(), accept_all)
@@ -313,14 +313,19 @@ class OpenedQuestions(unittest.TestCase):
                 grant.holds_at(moment)
         endless = self.guard.decide(new_question(), accept_all)
         self.assertEqual((endless.until, endless.holds_at(last + second), endless.holds_at(BEFORE)), (None, True, False))
+        latest = datetime.max.replace(tzinfo=timezone.utc)
+        self.assertTrue(endless.holds_at(latest) and self.guard.decide(new_question(moment=latest), accept_all))
+        later = datetime.max.replace(hour=22, tzinfo=timezone(timedelta(hours=-2)))  # (the first hour of the year 10000)
+        self.assertFalse(endless.holds_at(later))
+        with self.assertRaisesRegex(spki.Refused, "refused at BadDate"):
+            self.guard.decide(new_question(moment=later), accept_all)
 
-    # The replaced call of the library returns the last second of the year 9999, the one after it, which becomes the last moment of a `datetime`, one
-    # before 1970, one long before the year 1, which becomes the first moment, and 2 ** 63 - 1, which means that no window ends.
+    # The replaced call of the library returns the last second but one of the year 9999, the last one, to which a grant holds whose windows do not
+    # end, one before 1970, and one long before the year 1, which becomes the first moment of a `datetime`.
     def test_ends_that_python_does_not_have(self):
-        opened, last_second = self.guard.ask(new_question()), datetime.max.replace(microsecond=0, tzinfo=timezone.utc)
-        last, first = (limit.replace(tzinfo=timezone.utc) for limit in (datetime.max, datetime.min))
-        for until, wanted in ((253_402_300_799, last_second), (253_402_300_800, last), (-1, EPOCH - timedelta(seconds=1)), (-2 ** 62, first),
-                              (2 ** 63 - 1, None)):
+        opened, second = self.guard.ask(new_question()), timedelta(seconds=1)
+        last, first = (limit.replace(microsecond=0, tzinfo=timezone.utc) for limit in (datetime.max, datetime.min))
+        for until, wanted in ((253_402_300_798, last - second), (253_402_300_799, None), (-1, EPOCH - second), (-2 ** 62, first)):
             with mock.patch.object(_library, "decide", return_value=_library.Decision(_library.YES, until)), \
                     mock.patch.object(spki._CallMemory, "line", return_value=b"yes entry 7\n"):
                 self.assertEqual(opened.decide(), spki.Grant(7, wanted))
@@ -365,8 +370,8 @@ class OpenedQuestions(unittest.TestCase):
         signature = _library.signature
         with mock.patch.object(_library, "signature", lambda handle, place, at: places.append(place.value) or signature(handle, place, at)):
             self.assertEqual((next(iter(opened)), places), (SIGNED, [0]))
-            opened.verify(lambda signature: len(places) < 4)
-        self.assertEqual(places, [0, 0, 1, 2])
+            valid_count = opened.verify(lambda signature: len(places) < 4)
+        self.assertEqual((places, valid_count), ([0, 0, 1, 2], 2))
 
     def test_each_text_is_copied_once(self):
         """Of each signature the key, the message and the value are copied once each: three slices of `_library.memory`, whose mock copies by another
@@ -720,10 +725,10 @@ class Guards(unittest.TestCase):
 
     def test_closing_in_another_thread(self):
         """A guard and a question may be closed while another thread makes one of `calls` again and again: this answers as before, or raises
-        ValueError. Each row says whether the answer is the right one: `verify` and `mark` return None."""
+        ValueError. Each row says whether the answer is the right one: `mark` returns None."""
         calls = {"entries": lambda guard, opened: guard.entries == 1, "decide": lambda guard, opened: bool(guard.decide(new_question(), accept_all)),
                  "count": lambda guard, opened: len(opened) == 1, "signatures": lambda guard, opened: opened.signatures()[0] == SIGNED,
-                 "verify": lambda guard, opened: opened.verify(accept_all) is None, "ask": lambda guard, opened: len(guard.ask(new_question())) == 1,
+                 "verify": lambda guard, opened: opened.verify(accept_all) == 1, "ask": lambda guard, opened: len(guard.ask(new_question())) == 1,
                  "mark": lambda guard, opened: opened.mark(0) is None, "is_possible": lambda guard, opened: opened.is_possible,
                  "decide by marks": lambda guard, opened: opened.mark(0) is None and opened.decide() == spki.Grant(1),
                  "explain": lambda guard, opened: str(guard.explain(new_question(), accept_all)) == "entry 1 grants",

@@ -330,13 +330,13 @@ SPKI_RESULT bool spki_asked_possible(const spki_asked *asked);
 /* What a decision says. It is a structure, so that no compiler takes it for a truth value. */
 struct spki_decision {
     enum spki_status status; /* SPKI_YES or SPKI_NO; SPKI_REFUSED, SPKI_TOO_SMALL or SPKI_MISUSED if there is no decision */
-    int64_t until;           /* with SPKI_YES: a second since 1970-01-01 00:00:00 UTC, to which the yes holds, and INT64_MAX if no window ends.
-                                With every other status: INT64_MIN */
+    int64_t until;           /* with SPKI_YES: a second since 1970-01-01 00:00:00 UTC, to which the yes holds. If no window ends, it is
+                                253402300799, the last second of the year 9999 and of a question. With every other status: INT64_MIN */
 };
 
 /* Whether a decision that was kept still grants the request at a time in seconds, from the question's own moment on. If not, ask again: another
- * entry may grant it. False below 0, as where a clock failed. It says nothing of a list that was read anew, nor of a certificate that its
- * verifier would reject by now. */
+ * entry may grant it. False below 0 and past the year 9999, as where a clock failed. It says nothing of a list that was read anew, nor of a
+ * certificate that its verifier would reject by now. */
 SPKI_RESULT SPKI_INLINE(bool) spki_holds_at(struct spki_decision kept, int64_t seconds)
 {
     return kept.status == SPKI_YES && seconds >= 0 && seconds <= kept.until;

@@ -15,7 +15,6 @@
 #include <algorithm>
 #include <chrono>
 #include <cstring>
-#include <iterator>
 #include <memory>
 #include <optional>
 #include <stdexcept>
@@ -88,51 +87,45 @@ private:
     std::shared_ptr<const std::string> octets;
 };
 
-/* What is asked. The texts are those of spki_question, and must last until `ask` or `decide` returns. `words` has the strings of the
- * request; an array, a vector or another container of std::string_view or std::string will do. A view that makes each string while it is
- * read does not compile: it must have forward iterators, which refer to the strings, or return each as a std::string_view or a `char *`. */
+/* What is asked. It owns its octets, so it may be kept and asked later. Copies share them, and a move is a copy. `words` has the strings of the
+ * request; an array, a vector or another container of std::string_view or std::string will do. */
 struct question {
     template <typename Words>
     question(std::string_view sequence, proven_key key, const Words &words, std::chrono::system_clock::time_point now)
         : key(std::move(key)), seconds(std::chrono::floor<std::chrono::seconds>(now).time_since_epoch().count())
     {
-        using std::begin;
-        static_assert(reads_lasting_words<std::decay_t<decltype(begin(words))>>(),
-                      "a string that is made while it is read does not last until the question is asked");
-        for (std::string_view word : words)
-            strings.push_back(text_of(word));
-        // (one that does not count, so that the address is not null where there is no string: null would mean that the request is a text)
-        strings.push_back({nullptr, 0});
-        parts.sequence = text_of(sequence);
-        parts.key = spki_assume_key(text_of(this->key.text()));
+        std::vector<std::string> copied{std::string(sequence)};
+        for (const auto &word : words) {
+            const std::string_view octets = word;
+            copied.emplace_back(octets);
+        }
+        owned = std::make_shared<const std::vector<std::string>>(std::move(copied));
+        for (const std::string &octets : *owned)
+            texts.push_back(text_of(octets));
     }
+    question(const question &) = default;
+    question &operator=(const question &) = default;
 
     /* The question as spki_guard_ask takes it. It lasts as long as this object. */
-    spki_question lent() const noexcept
+    spki_question lent() const && = delete;
+    spki_question lent() const & noexcept
     {
-        spki_question lent = parts;
+        spki_question lent{};
         lent.size = sizeof lent;
-        lent.words = strings.data();
-        lent.word_count = strings.size() - 1;
+        lent.sequence = texts.front();
+        lent.key = spki_assume_key(text_of(key.text()));
+        // (never null, also where there is no string: null would mean that the request is a text)
+        lent.words = texts.data() + 1;
+        lent.word_count = texts.size() - 1;
         lent.seconds = &seconds;
         return lent;
     }
 
 private:
-    /* Whether what an iterator reads outlasts it. An iterator that reads once, as std::istream_iterator, may refer to a string in itself. */
-    template <typename Iterator> static constexpr bool reads_lasting_words()
-    {
-        using word = decltype(*std::declval<Iterator &>());
-        if constexpr (std::is_lvalue_reference_v<word>)
-            return std::is_base_of_v<std::forward_iterator_tag, typename std::iterator_traits<Iterator>::iterator_category>;
-        return std::is_same_v<std::remove_cv_t<word>, std::string_view> || std::is_same_v<std::decay_t<word>, const char *> ||
-               std::is_same_v<std::decay_t<word>, char *>;
-    }
-
-    /* The sequence and the key alone. */
-    spki_question parts{};
     proven_key key;
-    std::vector<spki_text> strings;
+    /* The sequence, and then the strings of the request; and where they are. */
+    std::shared_ptr<const std::vector<std::string>> owned;
+    std::vector<spki_text> texts;
     std::int64_t seconds;
 };
 
@@ -144,11 +137,11 @@ public:
     explicit operator bool() const noexcept { return result.status == SPKI_YES; }
 
     /* From its own moment to this second the same question is granted, if the same signatures are valid: it is the least `not-after` of the
-     * entry and of all certificates. After it another entry may grant it. Nothing if no window ends, and for a no. A second that the clock
-     * does not have becomes the nearest that it has: the clock of GCC ends in 2262. */
+     * entry and of all certificates. After it another entry may grant it. Nothing if no window ends before the end of the year 9999, and for a
+     * no. A second that the clock does not have becomes the nearest that it has: the clock of GCC ends in 2262. */
     std::optional<time> until() const noexcept
     {
-        if (!*this || result.until == INT64_MAX)
+        if (!*this || result.until >= INT64_C(253402300799))
             return std::nullopt;
         // (time::min() lies within its second, whose beginning the clock does not have)
         const auto first = seconds_of(time::min()) + 1, last = seconds_of(time::max());
@@ -180,6 +173,11 @@ inline void require_done(spki_status status, const char *line = "", std::size_t 
         throw std::logic_error("a call of libspki_c is misused or got no memory, or the library is of another version than spki.hpp");
 }
 
+/* How many signatures of a question are valid. It is no yes, also if all are: `decide` answers. */
+struct [[nodiscard]] valid_count {
+    std::size_t number;
+};
+
 /* A question that was read, with a mark for each signature that is found valid. */
 class asked {
 public:
@@ -201,11 +199,14 @@ public:
     /* Whether the request would be granted if all signatures were valid. If not, none has to be verified. True grants nothing. */
     bool possible() const noexcept { return spki_asked_possible(handle.get()); }
 
-    /* Marks each signature that is valid, in order, up to the first that is not. If `verify` throws, those before stay marked. */
-    template <typename Verify> void verify(Verify &&verify)
+    /* Marks each signature that is valid, in order, up to the first that is not, and returns how many these are, of `size()`. If `verify`
+     * throws, those before stay marked. */
+    template <typename Verify> valid_count verify(Verify &&verify)
     {
-        for (std::size_t place = 0; place < size() && is_valid(verify, signature(place)); place++)
+        std::size_t place = 0;
+        for (; place < size() && is_valid(verify, signature(place)); place++)
             mark(place);
+        return {place};
     }
 
     /* Whether the request is granted, if exactly the marked signatures are valid. A no too if the library gets no memory. */
@@ -281,7 +282,7 @@ public:
     {
         spki::asked asked = ask(question);
         if (asked.possible())
-            asked.verify(verify);
+            (void)asked.verify(verify);
         return asked.decide();
     }
 

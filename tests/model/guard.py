@@ -44,7 +44,7 @@ ALLOWED = Rows("question to a guard, null pointers that are allowed", ["limits",
 SMALL = Rows("question to a guard, status 4", ["the line of a refused list", "the line of a refused question", "an answer"])
 FIRST_SECOND, LAST_SECOND = 0, 253_402_300_799
 # as the last second of a decision: that of no yes, and of one that nothing ends
-NEVER, NO_END = -2**63, 2**63 - 1
+NEVER, NO_END = -2**63, LAST_SECOND
 UNTIL = Rows("question to a guard, what ends a yes", ["nothing", "a window"])
 # after so many years, which are so many days, the Gregorian calendar is the same again
 CYCLE_YEARS, CYCLE_DAYS = 400, 146_097

@@ -486,11 +486,12 @@ static void close_guard_beside(size_t count)
 /* The last second of the year 9999: no later moment can be asked. */
 #define LAST_SECOND INT64_C(253402300799)
 
-/* A yes that is kept holds from 1970 until its window ends, and no second longer, or without end if it has no window. A no does not hold. */
+/* A yes that is kept holds from 1970 until its window ends, and no second longer, or until the year 9999 ends if it has no window. A no does not
+ * hold. */
 static void kept_decisions(void)
 {
     static const struct { const char *list; int64_t until; } rows[] = {
-        {"(acl (entry (public-key (test b)) (tag (*))))", INT64_MAX},
+        {"(acl (entry (public-key (test b)) (tag (*))))", LAST_SECOND},
         {"(acl (entry (public-key (test b)) (tag (*)) (not-after \"2026-06-30_23:59:59\")))", 1782863999},
         {"(acl (entry (public-key (test b)) (tag (*)) (not-after \"9999-12-31_23:59:59\")))", LAST_SECOND}};
     for (size_t row = 0; row < sizeof rows / sizeof *rows; row++) {
@@ -501,11 +502,14 @@ static void kept_decisions(void)
         const struct spki_decision kept = spki_asked_decide(asked, line, sizeof line, NULL);
         spki_asked_close(asked);
         expect(kept.status == SPKI_YES && kept.until == rows[row].until, "another last second");
-        for (int later = 0; later < 2 && rows[row].until < LAST_SECOND; later++) {
+        for (int later = 0; later < 2; later++) {
             const int64_t now = rows[row].until + later;
             question.seconds = &now;
+            expect(spki_holds_at(kept, now) == !later, "a yes ends before its last second, or after it");
+            if (now > LAST_SECOND)
+                continue;
             asked = open_question(guard, &question);
-            expect(spki_holds_at(kept, now) == !later && spki_asked_granted(asked) == !later, "a yes ends before its last second, or after it");
+            expect(spki_asked_granted(asked) == !later, "the same question ends before the last second of a yes, or after it");
             spki_asked_close(asked);
         }
         expect(spki_holds_at(kept, moment) && !spki_holds_at(kept, -1), "a yes does not begin with its moment");

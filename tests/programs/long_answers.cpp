@@ -21,6 +21,6 @@ int main(int, char **words)
     const auto key = spki::proven_key::assume(text_in(words[4]));
     const spki::guard guard(text_in(words[2]), SPKI_STRICT, words[1] == std::string("highest") ? spki::highest_limits : spki::usual_limits);
     spki::asked asked = guard.ask({sequence, key, request, std::chrono::system_clock::from_time_t(1704067200)}); // (2024-01-01)
-    asked.verify([](const spki::signature &) { return true; });
+    (void)asked.verify([](const spki::signature &) { return true; });
     std::cout << asked.explain() << asked.reduce();
 }

@@ -4,6 +4,8 @@
 
 #include <array>
 #include <cstdio>
+#include <iterator>
+#include <sstream>
 #include <string>
 #include <thread>
 #include <utility>
@@ -85,6 +87,28 @@ static int opened_question()
     return 0;
 }
 
+// Words of a text, which are made while they are read.
+struct typed {
+    std::istream &text;
+    std::istream_iterator<std::string> begin() const { return {text}; }
+    std::istream_iterator<std::string> end() const { return {}; }
+};
+
+// A question owns its octets: all that it was made of may end before it is asked, and so may the one that it is a copy of.
+static int kept_questions()
+{
+    const std::string path = "/builds/a-path-that-is-too-long-to-be-inside-of-a-string";
+    const spki::guard guard("(acl (entry (public-key (test a)) (propagate) (tag (files " + path + "))))");
+    auto made = std::make_unique<spki::question>(std::string(sequence), key, std::vector<std::string>{"files", path}, now);
+    const spki::question moved = std::move(*made);
+    CHECK(guard.decide(*made, is_sig));
+    made.reset();
+    CHECK(guard.decide(moved, is_sig));
+    std::istringstream text("files " + path), other_text("files /builds/x");
+    CHECK(guard.decide({sequence, key, typed{text}, now}, is_sig) && !guard.decide({sequence, key, typed{other_text}, now}, is_sig));
+    return 0;
+}
+
 // Two clients at once: c shows a certificate in the name of a, whose signature is not valid. A mark for b grants nothing to c.
 static int two_clients()
 {
@@ -93,8 +117,7 @@ static int two_clients()
                                " (public-key (test a)) forged))";
     spki::guard guard(list);
     spki::asked good = guard.ask({sequence, key, words, now}), bad = guard.ask({forged, other, words, now});
-    good.verify(is_sig);
-    bad.verify(is_sig);
+    CHECK(good.verify(is_sig).number == 1 && bad.verify(is_sig).number == 0);
     CHECK(good.decide() && !bad.decide());
     std::swap(good, bad);
     CHECK(bad.decide() && !good.decide());
@@ -156,8 +179,7 @@ static int moved_handles()
     spki::guard guard(list);
     spki::asked asked = guard.ask({sequence, key, words, now});
     const spki::asked other = std::move(asked);
-    asked.verify(is_sig);
-    CHECK(asked.size() == 0 && !asked.decide());
+    CHECK(asked.verify(is_sig).number == 0 && asked.size() == 0 && !asked.decide());
     CHECK(is_misuse([&] { asked.signature(0); }) && is_misuse([&] { asked.mark(0); }));
     CHECK(is_misuse([&] { asked.explain(); }) && is_misuse([&] { asked.reduce(); }));
     spki::proven_key client = key;
@@ -212,7 +234,7 @@ static int threads()
 {
     auto guard = std::make_unique<spki::guard>(list);
     spki::asked marked = guard->ask({sequence, key, words, now});
-    marked.verify(is_sig);
+    (void)marked.verify(is_sig);
     const spki::asked shared = std::move(marked);
     std::array<int, 4> granted{};
     std::vector<std::thread> asking, ending;
@@ -225,8 +247,7 @@ static int threads()
         thread.join();
     for (int &count : granted)
         ending.emplace_back([&count, own = guard->ask({sequence, key, words, now})]() mutable {
-            own.verify(is_sig);
-            count += own.decide() ? 1 : 0;
+            count += own.verify(is_sig).number == 1 && own.decide() ? 1 : 0;
         });
     guard.reset();
     for (std::thread &thread : ending)
@@ -238,6 +259,6 @@ static int threads()
 
 int main()
 {
-    return decisions() || opened_question() || two_clients() || equal_signatures() || kept_decisions() || impossible_requests()
+    return decisions() || opened_question() || kept_questions() || two_clients() || equal_signatures() || kept_decisions() || impossible_requests()
            || moved_handles() || refusals() || logins() || literals() || threads();
 }

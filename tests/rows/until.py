@@ -2,7 +2,7 @@
 docs/FORMATS.md, the seconds by `date -u -d 'YYYY-MM-DD HH:MM:SS' +%s`."""
 from rows.chains import cert, entry, key, signed
 
-NO_END = 2**63 - 1  # (the greatest number of 64 bits: what the library says where no window ends)
+NO_END = 253402300799  # (the last second of the year 9999, to which a yes holds where no window ends: no later moment can be asked)
 GROUP = f"(name {key('a')} friends)"
 # Of each row: its name; the limits of the entry, of a certificate by a and of a definition of a's name, each a date or none; the moment; the end.
 ROWS = [

@@ -418,7 +418,7 @@ class InCpp(Binding):
         """A verifier must return a bool: one that returns a number or a string is not compiled."""
         for answer, is_compiled in (("true", True), ("-1", False), ('"no"', False)):
             text = f"""#include <spki.hpp>
-                       void asks(spki::asked &asked) {{ asked.verify([](const spki::signature &) {{ return {answer}; }}); }}"""
+                       void asks(spki::asked &asked) {{ (void)asked.verify([](const spki::signature &) {{ return {answer}; }}); }}"""
             status, _ = output_of("g++", "-std=c++17", "-fsyntax-only", "-I", CRATE, "-x", "c++", "-", text=text, seconds=SECONDS)
             self.assertEqual(status == 0, is_compiled, answer)
 

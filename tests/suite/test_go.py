@@ -68,6 +68,10 @@ class InGo(OfGo):
         of Go up to 1.20 for these checks. From 1.21 on they are a setting of the build, GOEXPERIMENT=cgocheck2."""
         self.go(golang.MODULE, "test", "-race", "./...", GODEBUG="cgocheck=2")
 
+    def test_many_goroutines(self) -> None:
+        """20,000 goroutines decide at once, in few threads. The race detector knows 8,128 of them at most."""
+        self.go(golang.MODULE, "test", "-run", "^TestManyGoroutines$", "./guard")
+
     def test_questions(self) -> None:
         """A program in Go gives the answers that `test_bindings.all_questions` expects. It reads questions as `test_bindings.framed` writes them, and
         writes its answers as strings in canonical form, without their last line feeds."""

@@ -136,9 +136,10 @@ func (a *Asked) Mark(place int) error {
 	return nil
 }
 
-// Verify calls a function with each signature, in order, up to the first for which it returns false, and marks those before that one. To explain a
-// denial, call it also where Possible is false. The error is that of Each.
-func (a *Asked) Verify(verify Verify) error {
+// Verify calls a function with each signature, in order, up to the first for which it returns false, and marks those before that one. It returns how
+// many these are, of Count. That is no yes, and a signature that is not valid is no error: Decide answers. To explain a denial, call it also where
+// Possible is false. The error is that of Each, with the number 0.
+func (a *Asked) Verify(verify Verify) (int, error) {
 	return a.VerifyContext(context.Background(), func(_ context.Context, signature Signature) (bool, error) {
 		return verify(signature), nil
 	})
@@ -147,9 +148,9 @@ func (a *Asked) Verify(verify Verify) error {
 // VerifyContext is Verify by a function that may fail. The context is tested before the first signature and after each. The marks are set after the
 // last call. The error is that of the function, of the context or of Each, and then nothing is marked, or ErrClosed if the question is closed while
 // the marks are set.
-func (a *Asked) VerifyContext(ctx context.Context, verify VerifyContext) error {
+func (a *Asked) VerifyContext(ctx context.Context, verify VerifyContext) (int, error) {
 	if err := ctx.Err(); err != nil {
-		return err
+		return 0, err
 	}
 	// The number of signatures before the first that is not valid, and the error of `verify` or of the context.
 	var valid int
@@ -167,12 +168,15 @@ func (a *Asked) VerifyContext(ctx context.Context, verify VerifyContext) error {
 		return true
 	})
 	if failure != nil {
-		return failure
+		err = failure
 	}
 	for place := 0; place < valid && err == nil; place++ {
 		err = a.Mark(place)
 	}
-	return err
+	if err != nil {
+		return 0, err
+	}
+	return valid, nil
 }
 
 // Possible says whether the request would be granted if all signatures were valid. If not, no marks make it a yes, and no signature needs to be

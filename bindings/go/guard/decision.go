@@ -4,17 +4,19 @@ package guard
 
 import (
 	"fmt"
-	"math"
 	"strconv"
 	"strings"
 	"time"
 )
 
+// lastSecond is the last second of the year 9999, since 1970. No later time can be asked.
+const lastSecond = 253_402_300_799
+
 // A Decision says whether a request is granted. The zero value is a no.
 type Decision struct {
 	// entry is the number of the entry that grants the request, from 1, and 0 for a no.
 	entry int
-	// until is the last second of a grant, since 1970: math.MaxInt64 if no window ends.
+	// until is the last second of a grant, since 1970: lastSecond if no window ends.
 	until int64
 }
 
@@ -29,17 +31,18 @@ func (d Decision) Entry() int {
 }
 
 // Until returns the last second of the grant: from the question's time to then, the same question with the same valid signatures is granted. It is
-// the least not-after of the entry and of all certificates. After it another entry may grant it. It is zero if no window ends, and for a no.
+// the least not-after of the entry and of all certificates. After it another entry may grant it. It is zero if no window ends before the end of the
+// year 9999, and for a no.
 func (d Decision) Until() time.Time {
-	if !d.Granted() || d.until == math.MaxInt64 {
+	if !d.Granted() || d.until >= lastSecond {
 		return time.Time{}
 	}
 	return time.Unix(d.until, 0).UTC()
 }
 
-// HoldsAt says whether a decision that was kept still grants the request at a time, which must not precede the question's. It is false before 1970,
-// since only a clock that failed gives such a time. It does not know whether another list was read since, nor whether the verifier would now reject a
-// signature.
+// HoldsAt says whether a decision that was kept still grants the request at a time, which must not precede the question's. It is false before 1970
+// and past the year 9999, since only a clock that failed gives such a time. It does not know whether another list was read since, nor whether the
+// verifier would now reject a signature.
 func (d Decision) HoldsAt(now time.Time) bool {
 	return d.Granted() && now.Unix() >= 0 && now.Unix() <= d.until
 }
@@ -52,8 +55,7 @@ func (d Decision) String() string {
 	return "no"
 }
 
-// decisionOf returns the grant of a line `yes entry N`, until a second since 1970: math.MaxInt64 if no window ends. It returns an error for each
-// other line.
+// decisionOf returns the grant of a line `yes entry N`, until a second since 1970. It returns an error for each other line.
 func decisionOf(line string, until int64) (Decision, error) {
 	const prefix = "yes entry "
 	entry, err := strconv.Atoi(strings.TrimPrefix(withoutLineFeed(line), prefix))

@@ -19,6 +19,9 @@
 //
 // A yes holds from its moment to Until, and a no for its moment alone.
 //
+// Any number of goroutines may call. At the same time so many calls of the library last, each with a thread of the system: twice the processors that
+// Go has at the start, and 56. The others wait. No call waits for a verifier, which may call this package too.
+//
 // The library's decisions are proved. The lines of this module are tested and not proved.
 //
 // The static library of this repository is linked. CGO_CFLAGS=-I and CGO_LDFLAGS=-L name another folder of spki.h and libspki_c.a. With the
@@ -187,7 +190,7 @@ func (g *Guard) decide(question *Question, verify Verify) (Decision, error) {
 	}
 	defer asked.Close()
 	if asked.isWorthVerifying() {
-		if err := asked.Verify(verify); err != nil {
+		if _, err := asked.Verify(verify); err != nil {
 			return Decision{}, err
 		}
 	}
@@ -211,7 +214,7 @@ func (g *Guard) decideContext(ctx context.Context, question *Question, verify Ve
 		return Decision{}, err
 	}
 	if asked.isWorthVerifying() {
-		if err := asked.VerifyContext(ctx, verify); err != nil {
+		if _, err := asked.VerifyContext(ctx, verify); err != nil {
 			return Decision{}, fmt.Errorf("a signature could not be verified: %w", err)
 		}
 	}
@@ -239,7 +242,7 @@ func (g *Guard) Explain(question Question, verify Verify) (Explanation, error) {
 		return Explanation{}, err
 	}
 	defer asked.Close()
-	if err := asked.Verify(verify); err != nil {
+	if _, err := asked.Verify(verify); err != nil {
 		return Explanation{}, err
 	}
 	return asked.Explain()
@@ -253,7 +256,7 @@ func (g *Guard) Reduce(question Question, verify Verify) (string, error) {
 		return "", err
 	}
 	defer asked.Close()
-	if err := asked.Verify(verify); err != nil {
+	if _, err := asked.Verify(verify); err != nil {
 		return "", err
 	}
 	return asked.Reduce()

@@ -270,10 +270,10 @@ func TestMarksAreOfOneQuestion(t *testing.T) {
 	opened, question := openGuard(t, list), questionWith(0)
 	question.Sequence, question.Key = []byte("(sequence "+forgedForC+")"), spki.AssumeKey([]byte("(public-key (test c))"))
 	good, bad, unmarked := askAndMark(t, opened, questionWith(1)), askAndMark(t, opened, question), askAndMark(t, opened, questionWith(1))
-	for _, asked := range []*guard.Asked{good, bad} {
-		err := asked.Verify(func(signature guard.Signature) bool { return string(signature.Value) == "3:sig" })
-		if err != nil || !asked.Possible() {
-			t.Error(err)
+	for asked, wanted := range map[*guard.Asked]int{good: 1, bad: 0} {
+		valid, err := asked.Verify(func(signature guard.Signature) bool { return string(signature.Value) == "3:sig" })
+		if err != nil || valid != wanted || !asked.Possible() {
+			t.Errorf("%d valid, %v", valid, err)
 		}
 	}
 	if !isGranted(t, good) || isGranted(t, bad) || isGranted(t, unmarked) {
@@ -329,14 +329,14 @@ func TestVerifierThatFailsMarksNothing(t *testing.T) {
 	question, fault := questionWith(0), errors.New("no such key")
 	question.Sequence, question.Key = []byte("(sequence "+forA+forA+")"), spki.AssumeKey([]byte("(public-key (test a))"))
 	asked, calls := askAndMark(t, openGuard(t, list), question), 0
-	err := asked.VerifyContext(context.Background(), func(context.Context, guard.Signature) (bool, error) {
+	valid, err := asked.VerifyContext(context.Background(), func(context.Context, guard.Signature) (bool, error) {
 		if calls++; calls == 2 {
 			return true, fault
 		}
 		return true, nil
 	})
-	if !errors.Is(err, fault) || calls != 2 {
-		t.Errorf("%v, %d calls", err, calls)
+	if !errors.Is(err, fault) || valid != 0 || calls != 2 {
+		t.Errorf("%v, %d valid, %d calls", err, valid, calls)
 	}
 	if err := asked.Mark(1); err != nil || isGranted(t, asked) {
 		t.Error(err)
@@ -621,7 +621,7 @@ func TestAClockThatFailed(t *testing.T) {
 }
 
 // TestUntil keeps a grant. It holds up to the not-after of the entry, and no second longer: the same question, asked again, has the same answer. A
-// grant without a window holds longer, but not before 1970. A no never holds.
+// grant without a window holds till the year 9999 ends, after which no question is answered, but not before 1970. A no never holds.
 func TestUntil(t *testing.T) {
 	ending := openGuard(t, `(acl (entry (public-key (test a)) (propagate) (tag (*)) (not-after "2026-06-30_23:59:59")))`)
 	last, question := time.Date(2026, 6, 30, 23, 59, 59, 0, time.UTC), questionWith(1)
@@ -638,6 +638,12 @@ func TestUntil(t *testing.T) {
 	endless, err := openGuard(t, list).Decide(questionWith(1), acceptAll)
 	if err != nil || !endless.Until().IsZero() || !endless.HoldsAt(last.Add(time.Second)) || endless.HoldsAt(time.Unix(-1, 0)) {
 		t.Errorf("%v, %v", endless, err)
+	}
+	for second, holds := range map[int64]bool{253_402_300_799: true, 253_402_300_800: false} {
+		question.Time = time.Unix(second, 999_999_999)
+		if asked, _ := openGuard(t, list).Decide(question, acceptAll); asked.Granted() != holds || endless.HoldsAt(question.Time) != holds {
+			t.Errorf("%d: %v, %v", second, asked, endless.HoldsAt(question.Time))
+		}
 	}
 	no, err := ending.Decide(questionWith(1), acceptNone)
 	if err != nil || !no.Until().IsZero() || no.HoldsAt(last) || (guard.Decision{}).HoldsAt(last) {

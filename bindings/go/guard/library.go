@@ -14,6 +14,8 @@ import "C"
 import (
 	"bytes"
 	"fmt"
+	"runtime"
+	"sync/atomic"
 	"unsafe"
 )
 
@@ -41,6 +43,28 @@ const (
 	// The octets that each decision and each refusal fits in.
 	roomForLine = C.LIBRARY_LINE
 )
+
+// A call of the library has a place while it lasts, and a thread of the system. Go ends a program with 10,000 threads. More calls than processors make
+// no answer faster, but a short one must not wait for all long ones: so there are twice as many places as processors, and 56 more. places is how many
+// are free, and below zero how many calls wait, each for one that ends to send to `left`. What has a place waits for nothing else.
+var (
+	places = int32(2*runtime.GOMAXPROCS(0) + 56)
+	left   = make(chan struct{}, places)
+)
+
+// enter waits for a place, and returns leave, which gives it back: what calls the library for more than a number begins with `defer enter()()`.
+func enter() func() {
+	if atomic.AddInt32(&places, -1) < 0 {
+		<-left
+	}
+	return leave
+}
+
+func leave() {
+	if atomic.AddInt32(&places, 1) <= 0 {
+		left <- struct{}{}
+	}
+}
 
 // addressOf returns the address of octets as an argument of the library, which reads them where they are during one call. It is null for none.
 func addressOf(octets []byte) *C.char {
@@ -108,6 +132,7 @@ func open(list []byte, policy Policy, limits Limits) (guardHandle, error) {
 		octets: C.size_t(limits.Octets), certificates: C.size_t(limits.Certificates), words: C.size_t(limits.Words),
 		nodes: C.size_t(limits.Nodes), work: C.size_t(limits.Work), answer: C.size_t(limits.Answer),
 	}
+	defer enter()()
 	result := C.library_open(addressOf(list), C.size_t(len(list)), policyOf(policy), most)
 	if result.status != C.SPKI_DONE || result.guard == nil {
 		return nil, errorOf(result.status, lineIn(&result))
@@ -117,6 +142,7 @@ func open(list []byte, policy Policy, limits Limits) (guardHandle, error) {
 
 // closeGuard frees a guard, once its questions are closed too.
 func closeGuard(guard guardHandle) {
+	defer enter()()
 	C.spki_guard_close(guard)
 }
 
@@ -154,6 +180,7 @@ func argumentsOf(question *Question) arguments {
 // or that the library is of another version.
 func ask(guard guardHandle, question *Question) (asked askedHandle, count int, err error) {
 	args := argumentsOf(question)
+	defer enter()()
 	result := C.library_ask(guard, args.parts, args.sequence, args.joined, args.lengths)
 	if result.status != C.SPKI_DONE || result.asked == nil {
 		return nil, 0, errorOf(result.status, lineIn(&result))
@@ -164,6 +191,7 @@ func ask(guard guardHandle, question *Question) (asked askedHandle, count int, e
 // signature returns a copy of the signature at a place, from 0, which must be below the count. `key` is the key of the signature before it, or nil:
 // if both are equal, the result has `key` itself, so that no key is copied twice. The error says that an allocation failed.
 func signature(asked askedHandle, place int, key []byte) (Signature, error) {
+	defer enter()()
 	var signed C.struct_spki_signed
 	if status := C.spki_asked_signature(asked, C.size_t(place), &signed); status != C.SPKI_DONE {
 		return Signature{}, errorOf(status, "")
@@ -181,6 +209,7 @@ func signature(asked askedHandle, place int, key []byte) (Signature, error) {
 
 // mark says that the signature at a place, from 0, is valid. The error is ErrMisused if there is no such place.
 func mark(asked askedHandle, place int) error {
+	defer enter()()
 	if status := C.spki_asked_mark(asked, C.size_t(place)); status != C.SPKI_DONE {
 		return errorOf(status, "")
 	}
@@ -189,11 +218,13 @@ func mark(asked askedHandle, place int) error {
 
 // possible says whether a question would be granted if all its signatures were valid.
 func possible(asked askedHandle) bool {
+	defer enter()()
 	return bool(C.spki_asked_possible(asked))
 }
 
 // decide returns the decision by the marks of a question. The error says that an allocation failed.
 func decide(asked askedHandle) (Decision, error) {
+	defer enter()()
 	result := C.library_decide(asked)
 	return decisionIn(&result)
 }
@@ -202,6 +233,7 @@ func decide(asked askedHandle) (Decision, error) {
 // question has `listed` signatures, as it had when they were verified, and otherwise that of ask.
 func decideVerified(guard guardHandle, question *Question, listed, valid int) (Decision, error) {
 	args := argumentsOf(question)
+	defer enter()()
 	result := C.library_decide_verified(guard, args.parts, args.sequence, args.joined, args.lengths, C.size_t(listed), C.size_t(valid))
 	return decisionIn(&result)
 }
@@ -224,6 +256,7 @@ func lines(asked askedHandle, command command, most int) (string, error) {
 	if most < roomForLine {
 		most = roomForLine
 	}
+	defer enter()()
 	var written C.struct_spki_text
 	status := C.library_lines(asked, command, C.size_t(most), &written)
 	defer C.library_free(written)
@@ -235,6 +268,7 @@ func lines(asked askedHandle, command command, most int) (string, error) {
 
 // closeAsked frees a question.
 func closeAsked(asked askedHandle) {
+	defer enter()()
 	C.spki_asked_close(asked)
 }
 
@@ -250,6 +284,7 @@ func convert(command command, source []byte) ([]byte, error) {
 	if octets > mostOctets {
 		octets = mostOctets
 	}
+	defer enter()() // (before the buffer: what waits has none)
 	buffer, length := make([]byte, 3*octets+roomForLine), C.size_t(0)
 	status := C.library_convert(command, addressOf(source), C.size_t(len(source)), addressOf(buffer), C.size_t(len(buffer)), &length)
 	if status == C.SPKI_TOO_SMALL {

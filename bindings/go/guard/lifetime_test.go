@@ -42,8 +42,11 @@ func TestClose(t *testing.T) {
 // Verify are ErrClosed, although there is no signature to copy.
 func TestCloseOfNoSignatures(t *testing.T) {
 	asked := askAndMark(t, openGuard(t, list), questionWith(0))
-	if listed := asked.Signatures(); listed == nil || len(listed) != 0 || asked.Verify(acceptAll) != nil {
+	if listed := asked.Signatures(); listed == nil || len(listed) != 0 {
 		t.Errorf("%v", listed)
+	}
+	if valid, err := asked.Verify(acceptAll); valid != 0 || err != nil {
+		t.Errorf("%d valid, %v", valid, err)
 	}
 	asked.Close()
 	expectUnlisted(t, asked)
@@ -56,8 +59,8 @@ func expectUnlisted(t *testing.T, asked *guard.Asked) {
 	if err := asked.Each(func(_ int, signed guard.Signature) bool { return never(signed) }); !errors.Is(err, guard.ErrClosed) {
 		t.Error(err)
 	}
-	if err := asked.Verify(never); !errors.Is(err, guard.ErrClosed) {
-		t.Error(err)
+	if valid, err := asked.Verify(never); valid != 0 || !errors.Is(err, guard.ErrClosed) {
+		t.Errorf("%d valid, %v", valid, err)
 	}
 	if listed := asked.Signatures(); listed != nil {
 		t.Error(listed)

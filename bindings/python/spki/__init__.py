@@ -45,12 +45,12 @@ from typing import NoReturn, TypeVar, cast
 from . import _library
 from ._library import library
 from ._values import (Denied, Explanation, Grant, Limits, NoDecision, NotProved, Policy, ProvenKey, Question, Reason, Reduction, Refused,
-                      Scheme, Signature, Verify, answer_of, int_of, moment_of, octets_of, signature_of)
+                      Scheme, Signature, ValidCount, Verify, answer_of, int_of, moment_of, octets_of, signature_of)
 from ._words import Cause, Fault, Part
 
 __version__ = "0.2.0"
 __all__ = ["Asked", "Cause", "Denied", "Explanation", "Fault", "Grant", "Guard", "Limits", "NotProved", "Part", "Policy", "ProvenKey", "Question",
-           "Reason", "Reduction", "Refused", "Scheme", "Signature", "Verify", "advanced", "canonical", "string_at", "transport"]
+           "Reason", "Reduction", "Refused", "Scheme", "Signature", "ValidCount", "Verify", "advanced", "canonical", "string_at", "transport"]
 
 _Self = TypeVar("_Self", bound="_Closable")
 
@@ -178,10 +178,11 @@ class Asked(_Closable, NoDecision):
         with self._lock:
             _mark(handle, index)
 
-    def verify(self, verify: Verify) -> None:
-        """Marks each signature for which `verify(signature)` returns `True`, in order, up to the first `False`. Raises
-        `TypeError` if it returns anything else, such as a coroutine. Then, or if `verify` raises an exception, nothing
-        is marked. To explain a denial, verify also where `is_possible` is false."""
+    def verify(self, verify: Verify) -> ValidCount:
+        """Marks each signature for which `verify(signature)` returns `True`, in order, up to the first `False`, and returns
+        how many it has marked, of `len(self)`. That is no yes, and a signature that is not valid raises nothing: `decide`
+        answers. Raises `TypeError` if `verify` returns anything else, such as a coroutine. Then, or if it raises an
+        exception, nothing is marked. To explain a denial, verify also where `is_possible` is false."""
         handle, valid_count = self._open_handle(), 0
         # (not `in self`: a subclass may iterate otherwise, and the marks are by place)
         for signature in self._each_signature(handle):
@@ -191,6 +192,7 @@ class Asked(_Closable, NoDecision):
         for place in range(valid_count):
             with self._lock:
                 _mark(handle, place)
+        return ValidCount(valid_count)
 
     @property
     def is_possible(self) -> bool:
@@ -524,9 +526,9 @@ def _entry_of(grant: Grant | None) -> int:
 
 @functools.lru_cache(1024)
 def _grant_of(line: bytes, until: int) -> Grant:
-    """The grant of a line `yes entry N`. `until` is its last second since 1970, or `_library.ENDLESS`. A grant does not
-    change, so one that was made is used again."""
-    return Grant(int(line[len("yes entry "):]), None if until == _library.ENDLESS else moment_of(until))
+    """The grant of a line `yes entry N`. `until` is its last second since 1970. A grant does not change, so one that was
+    made is used again."""
+    return Grant(int(line[len("yes entry "):]), None if until >= _library.LAST_SECOND else moment_of(until))
 
 
 def _raise_unless_done(status: int, answer: bytes) -> None:

@@ -59,8 +59,8 @@ class Decision(Structure):
     _fields_ = [("status", c_int), ("until", c_int64)]
 
 
-# What `until` is if no window ends.
-ENDLESS = 2 ** 63 - 1
+# What `until` is if no window ends: the last second of the year 9999. No later moment can be asked.
+LAST_SECOND = 253_402_300_799
 
 
 class Memory(Protocol):

@@ -270,11 +270,17 @@ def _question_of(sequence: bytes, key: ProvenKey, words: Sequence[bytes] | None,
 
 
 class NoDecision:
-    """What grants nothing, and so is false: an `Asked`, an `Explanation` or a `Reduction` that is tested like a decision is no yes."""
+    """What grants nothing, and so is false: an `Asked`, a `ValidCount`, an `Explanation` or a `Reduction` that is tested like a decision is no
+    yes."""
 
     def __bool__(self) -> bool:
         """False: what is no decision grants nothing."""
         return False
+
+
+class ValidCount(NoDecision, int):
+    """How many signatures of an `Asked` its `verify` has marked as valid. It is no yes, and so is false, also if that is all of them:
+    `Asked.decide` answers."""
 
 
 @dataclass(frozen=True)
@@ -285,16 +291,16 @@ class Grant:
     """The number of the first entry that grants the request, from 1."""
     until: datetime | None = None
     """The last second of the grant: from the question's moment to then, the same question with the same valid signatures is granted. It is the
-    least `not-after` of the entry and of all certificates. After it another entry may grant it. `None` if no window ends."""
+    least `not-after` of the entry and of all certificates. After it another entry may grant it. `None` if no window ends before the end of the year
+    9999: the grant holds to its last second."""
 
     def holds_at(self, moment: datetime) -> bool:
         """Whether a grant that was kept still holds at a moment, which must not precede the question's. It does not
-        before 1970, since only a clock that failed gives such a moment. Raises `TypeError` for what is no `datetime`
-        with a time zone.
+        before 1970 or past the year 9999 in UTC, since only a clock that failed gives such a moment. Raises `TypeError`
+        for what is no `datetime` with a time zone.
 
         It does not know whether another list was read since, nor whether the verifier would now reject a signature."""
-        seconds = seconds_of(moment)
-        return seconds >= 0 and (self.until is None or seconds <= seconds_of(self.until))
+        return 0 <= seconds_of(moment) <= (_library.LAST_SECOND if self.until is None else seconds_of(self.until))
 
 
 class Denied(Exception):
@@ -372,11 +378,8 @@ def int_of(number: int) -> int:
 
 
 def moment_of(seconds: int) -> datetime:
-    """The moment of seconds since 1970, which may be negative. Before the year 1 it is the first moment of a `datetime`, and past the year 9999 the
-    last one."""
-    last, first = (limit.replace(tzinfo=timezone.utc) for limit in (datetime.max, datetime.min))
-    if seconds > seconds_of(last):
-        return last
+    """The moment of seconds since 1970, which may be negative, up to the year 9999. Before the year 1 it is the first moment of a `datetime`."""
+    first = datetime.min.replace(tzinfo=timezone.utc)
     return first if seconds < seconds_of(first) else EPOCH + seconds * SECOND
 
 

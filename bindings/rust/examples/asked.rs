@@ -110,7 +110,7 @@ fn answer_to(
     };
     let mut asked = guard.ask(question)?;
     match asked.verify(verify) {
-        Ok(()) => {}
+        Ok(_) => {}
         Err(Denied::Refused(refusal)) => return Err(refusal),
         Err(denied) => return Ok(denied.to_string()),
     }

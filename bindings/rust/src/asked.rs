@@ -33,6 +33,12 @@ pub struct Asked {
     most_answer: usize,
 }
 
+/// How many signatures of an [`Asked`] its [`verify`](Asked::verify) has marked as valid. It is no yes, also if that is all of them:
+/// [`decide`](Asked::decide) answers.
+#[must_use = "how many signatures are valid is no yes: `decide` answers"]
+#[derive(Clone, Copy, Debug, PartialEq, Eq)]
+pub struct ValidCount(pub usize);
+
 // SAFETY: the library's calls only read what the handle points to, except `mark`, and the last one, which frees it, and only `drop` makes that.
 unsafe impl Send for Asked {}
 // SAFETY: as above: all calls on `&Asked` take the handle as `const`. `mark` takes `&mut Asked`, so no other call uses the handle then.
@@ -139,25 +145,27 @@ impl Asked {
     /// Calls a function with each signature, in order, and marks those that it says are valid. After the first that is not valid the function is
     /// called no more: no entry can grant the request then. If the function fails, the signatures that were marked before stay marked.
     ///
+    /// Returns how many of the [`signatures`](Asked::signatures) are marked by this call: all of them if each is valid, and 0 if the first is not, or
+    /// if there is none. That is no yes, and a signature that is not valid is no error: [`decide`](Asked::decide) answers.
+    ///
     /// To explain why a request is denied, verify also where the request [cannot be granted](Asked::is_possible).
     ///
     /// # Errors
     ///
     /// The function failed, or an allocation did.
-    pub fn verify<V, A>(&mut self, mut verify: V) -> Result<(), Denied<A::Error>>
+    pub fn verify<V, A>(&mut self, mut verify: V) -> Result<ValidCount, Denied<A::Error>>
     where
         V: FnMut(Signature<'_>) -> A,
         A: Verdict,
     {
         for place in 0..self.count {
             let verdict = verify(self.signature(place)?).verdict();
-            if verdict.map_err(Denied::Verifier)? {
-                self.mark(place)?;
-            } else {
-                break;
+            if !verdict.map_err(Denied::Verifier)? {
+                return Ok(ValidCount(place));
             }
+            self.mark(place)?;
         }
-        Ok(())
+        Ok(ValidCount(self.count))
     }
 
     /// Whether the request would be granted if all signatures were valid. If not, no marks make it a yes, and no signature has to be verified.
@@ -232,8 +240,8 @@ impl Asked {
     }
 }
 
-/// The grant of a line `yes entry N`. `until` is its last second since 1970, or `i64::MAX` if no window ends. Another line is a refusal as misused:
-/// the library is not the one that was expected.
+/// The grant of a line `yes entry N`. `until` is its last second since 1970. Another line is a refusal as misused: the library is not the one that
+/// was expected.
 fn grant_of(line: &[u8], until: i64) -> Result<Grant, Refusal> {
     line_of(line)
         .strip_prefix("yes entry ")

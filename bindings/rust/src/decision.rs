@@ -14,30 +14,34 @@ pub struct Grant {
     /// The number of the first entry that grants the request, from 1.
     pub entry: usize,
     /// The last second of the grant: from the question's moment to then, the same question with the same valid signatures is granted. It is the
-    /// least `not-after` of the entry and of all certificates. After it another entry may grant it. `None` if no window ends.
+    /// least `not-after` of the entry and of all certificates. After it another entry may grant it. `None` if no window ends before the end of the
+    /// year 9999: the grant holds to its last second.
     pub until: Option<SystemTime>,
 }
 
+/// The last second of the year 9999, since 1970. No later moment can be asked.
+const LAST_SECOND: i64 = 253_402_300_799;
+
 impl Grant {
-    /// The grant by an entry until a second since 1970, which is negative for a window that ended before 1970. `i64::MAX` means that no window ends.
+    /// The grant by an entry until a second since 1970, which is negative for a window that ended before 1970.
     pub(crate) fn new(entry: usize, until_second: i64) -> Grant {
         let distance = Duration::from_secs(until_second.unsigned_abs());
         let until = match until_second {
-            i64::MAX => None,
+            LAST_SECOND.. => None,
             0.. => Some(UNIX_EPOCH + distance),
             _ => Some(UNIX_EPOCH - distance),
         };
         Grant { entry, until }
     }
 
-    /// Whether a grant that was kept still holds at a time, which must not precede the question's moment. No grant holds before 1970: such a
-    /// time is that of a clock that failed.
+    /// Whether a grant that was kept still holds at a time, which must not precede the question's moment. No grant holds before 1970 or past the year
+    /// 9999: such a time is that of a clock that failed.
     ///
     /// It does not know of a list that was read anew, nor of a certificate that its verifier would reject by now.
     #[must_use]
     pub fn holds_at(&self, now: SystemTime) -> bool {
-        let is_over = |until| now >= until + Duration::from_secs(1);
-        now >= UNIX_EPOCH && !self.until.is_some_and(is_over)
+        let last = UNIX_EPOCH + Duration::from_secs(LAST_SECOND.unsigned_abs());
+        now >= UNIX_EPOCH && now < self.until.unwrap_or(last) + Duration::from_secs(1)
     }
 }
 

@@ -266,7 +266,7 @@ impl Guard {
     {
         let mut asked = self.ask(question)?;
         if asked.count() > 0 && asked.is_possible() {
-            asked.verify(verify)?;
+            let _ = asked.verify(verify)?;
         }
         asked.decide_after_verifying()
     }

@@ -49,7 +49,7 @@ mod text;
 mod words;
 
 pub use answer::Refusal;
-pub use asked::Asked;
+pub use asked::{Asked, ValidCount};
 pub use decision::{Denied, Grant, Verdict, Verifier};
 pub use explanation::{Explanation, Reason};
 pub use guard::{Guard, Limits, Policy};

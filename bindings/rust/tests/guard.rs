@@ -9,7 +9,7 @@
 
 use spki::{
     Asked, Cause, Denied, Explanation, Fault, Grant, Guard, Limits, Moment, NotProved, Part,
-    Policy, ProvenKey, Question, Refusal, Request, Scheme, Signature,
+    Policy, ProvenKey, Question, Refusal, Request, Scheme, Signature, ValidCount,
 };
 use std::error::Error;
 use std::fmt;
@@ -107,11 +107,11 @@ fn a_verifier_is_not_called_behind_the_first_wrong_signature() -> Outcome {
     let guard = guard(LIST);
     let mut asked = guard.ask(&question_showing(sequence.as_bytes()))?;
     let mut calls = 0;
-    asked.verify(|signature| {
+    let valid = asked.verify(|signature| {
         calls += 1;
         signature.value == b"3:sig"
     })?;
-    assert_eq!(calls, 2);
+    assert_eq!((calls, valid), (2, ValidCount(1)));
     let explanation = asked.explain()?;
     assert_eq!(lines(&explanation), [(None, Some(3), "NotAccepted")]);
     Ok(())
@@ -157,8 +157,9 @@ fn marks_are_of_one_question() -> Outcome {
         NOW,
     ))?;
     assert!(good.is_possible() && bad.is_possible());
-    for asked in [&mut good, &mut bad] {
-        asked.verify(|signature| signature.value == b"3:sig")?;
+    for (asked, valid) in [(&mut good, 1), (&mut bad, 0)] {
+        let verified = asked.verify(|signature| signature.value == b"3:sig")?;
+        assert_eq!(verified, ValidCount(valid));
     }
     assert_eq!(
         (good.decide().is_ok(), bad.decide()),
@@ -442,7 +443,8 @@ fn a_moment_before_1970_or_past_9999_is_refused() {
     );
 }
 
-/// A grant holds till the least window ends, and no second longer. Here that is the entry's, whose last second is 1,782,863,999.
+/// A grant holds till the least window ends, and no second longer. Here that is the entry's, whose last second is 1,782,863,999. A grant without a
+/// window holds till the year 9999 ends, as a question can be asked.
 #[test]
 fn a_grant_says_until_when_it_holds() -> Outcome {
     let sequence = sequence_of(1);
@@ -465,10 +467,16 @@ fn a_grant_says_until_when_it_holds() -> Outcome {
     }
     assert!(!grant.holds_at(UNIX_EPOCH - Duration::from_nanos(1)));
     let endless = guard(LIST).decide(&question_showing(&sequence), accept)?;
-    assert_eq!(
-        (endless.until, endless.holds_at(last + second)),
-        (None, true)
-    );
+    assert_eq!(endless.until, None);
+    let end = UNIX_EPOCH + Duration::from_secs(253_402_300_800);
+    for (time, holds) in [
+        (last + second, true),
+        (end - Duration::from_millis(1), true),
+        (end, false),
+    ] {
+        let asked = guard(LIST).decide(&Question::new(&sequence, proven(KEY), WORDS, time), accept);
+        assert_eq!((endless.holds_at(time), asked.is_ok()), (holds, holds));
+    }
     Ok(())
 }
 

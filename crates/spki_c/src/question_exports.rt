@@ -194,7 +194,7 @@ pub extern "C" fn spki_c_asked_possible(lent: &mut BorrowedHandle) -> bool
 /// the answer in octets, and 0 with `MISUSED`. With `TOO_SMALL` and `MISUSED` the buffer is unchanged.
 ///
 /// With `YES`, `until` is the last second, since 1970-01-01 00:00:00 UTC, at which the same question is a yes by the entry that
-/// grants it, or `i64::MAX` if no window ends. With every other status it is `i64::MIN`.
+/// grants it, or the last second of the year 9999 if no window ends. With every other status it is `i64::MIN`.
 #[unsafe(no_mangle)]
 pub extern "C" fn spki_c_asked_answer(
     alloc: Global,

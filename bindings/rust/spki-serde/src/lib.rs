@@ -38,8 +38,8 @@ pub mod limits;
 pub mod policy;
 
 /// Writes a decision as a map. `granted` says whether the request is granted. A yes has also `entry`, the number of the entry that grants it, and
-/// `until`, the last second since 1970, or null if no window ends. A refusal has `refused`, its line, and a verifier that failed has `failed`, the
-/// text of the `Denied`, which ends with that of the verifier's error.
+/// `until`, the last second since 1970, or null if no window ends before the end of the year 9999. A refusal has `refused`, its line, and a verifier
+/// that failed has `failed`, the text of the `Denied`, which ends with that of the verifier's error.
 ///
 /// # Errors
 ///

@@ -150,7 +150,8 @@ pub struct Answered {
 pub struct Decision {
     /// `YES`, `NO`, or why there is no decision.
     pub status: Status,
-    /// With `YES` the second since 1970-01-01 00:00:00 UTC until which the same question is a yes, and `i64::MAX` if no window ends. Else `i64::MIN`.
+    /// With `YES` the second since 1970-01-01 00:00:00 UTC until which the same question is a yes: the last one of the year 9999 if no window ends.
+    /// Else `i64::MIN`.
     pub until: i64,
 }
 
