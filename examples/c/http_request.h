@@ -2,9 +2,9 @@
  * http_request.c along with verify.h and one of its verifiers, and http_nonces.c unless it keeps nonces itself.
  *
  *     struct http_service service = {names, 1, time(NULL), http_nonces_take, http_nonces_open(100000)};
- *     const char *refused = http_request_refusal(&service, &request, time(NULL), &proof);
- *     if (!refused)
- *         question.key = http_proven_key(&proof);
+ *     const char *refused = http_request_check(&service, &request, time(NULL), &proof);
+ *     if (!refused && http_request_decides(&service, guard, &proof, words, 3).status == SPKI_YES)
+ *         puts("granted");
  */
 #ifndef HTTP_REQUEST_H
 #define HTTP_REQUEST_H
@@ -39,12 +39,13 @@ struct http_service {
 };
 
 /* The key that has signed a request, in canonical form, the certificates that the request shows, as a question has them, which are lent by the
- * request, and the digest of the body by SHA-256 or SHA-512. Its length is 0 if none is signed: then there must be no body. Whoever reads
- * the body compares it. */
+ * request, its nonce, the time at which it was checked, and the digest of the body by SHA-256 or SHA-512. Its length is 0 if none is signed: then
+ * there must be no body. Whoever reads the body compares it. */
 struct http_proof {
-    unsigned char key[VERIFY_MOST_OCTETS], digest[64];
-    size_t key_length, digest_length;
+    unsigned char key[VERIFY_MOST_OCTETS], digest[64], nonce[64];
+    size_t key_length, digest_length, nonce_length;
     struct spki_text sequence;
+    long long now;
 };
 
 /* Parses the head of a request of HTTP/1.1, a C string that ends with its empty line. The texts of `request` and `fields` are parts of `head`. In it
@@ -53,13 +54,35 @@ struct http_proof {
 bool http_request_read(char *head, struct http_field *fields, size_t most, struct http_request *request);
 
 /* Null if a request proves a key at a time, in seconds since 1970. Otherwise the name of the refusal in docs/SIGNATURES.md, or "memory". With null
- * the proof is set, and the nonce of the request is used up. */
-const char *http_request_refusal(const struct http_service *service, const struct http_request *request, long long now, struct http_proof *proof);
+ * the proof is set. The nonce of the request is not used up: http_request_decides does that for a yes alone. Strangers have keys too: if each
+ * request that is signed used one up, they would fill the store, and everybody would be refused. */
+SPKI_RESULT const char *http_request_check(const struct http_service *service, const struct http_request *request, long long now,
+                                           struct http_proof *proof);
+
+/* Uses up the nonce of a proof, at the time of the proof, for a service that decides otherwise than by http_request_decides: after a yes, and before
+ * it acts. Null, or the name of the refusal: then nothing is granted. */
+SPKI_RESULT const char *http_proof_take(const struct http_service *service, const struct http_proof *proof);
 
 /* The key of a proof, for a question: its octets are in the proof. */
 static inline struct spki_proven_key http_proven_key(const struct http_proof *proof)
 {
     return spki_assume_key((struct spki_text){proof->key, proof->key_length});
+}
+
+/* The decision of a guard on a request that was checked: whether its key may do what the strings `words` say, of which there must be one at least, by
+ * its certificates and at its time. Verifies the certificates' signatures, decides, and only for a yes uses up the nonce. If that is refused, since
+ * the request came before, say, the decision is a no. */
+SPKI_RESULT static inline struct spki_decision http_request_decides(const struct http_service *service, const spki_guard *guard,
+                                                                    const struct http_proof *proof, const struct spki_text *words,
+                                                                    size_t word_count)
+{
+    const int64_t seconds = proof->now;
+    const struct spki_question question = {.size = sizeof question, .sequence = proof->sequence, .key = http_proven_key(proof), .words = words,
+                                           .word_count = word_count, .seconds = &seconds};
+    const struct spki_decision decision = verify_decides(guard, &question);
+    if (decision.status == SPKI_YES && http_proof_take(service, proof) != NULL)
+        return (struct spki_decision){SPKI_NO, INT64_MIN};
+    return decision;
 }
 
 /* Nonces in memory, as hashes of eight octets: room for `most` in each of two sets. Null if `most` is 0 or too large, or there is no memory or no

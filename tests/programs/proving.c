@@ -1,7 +1,8 @@
 /* Proves requests by examples/c/http_request.c. Reads strings LENGTH:OCTETS from standard input, for each request: the method, the authority, the
  * target, the time (seconds since 1970), how many seconds before the same came, `1` if it has a body that no field says (either may be empty), the
  * number of fields, and each name and value. Writes a line for each: the refusal, or `valid` and the body's digest in hexadecimal digits. Ends with 1
- * without memory, for too few or too many fields, if the earlier one is refused, another key is proved, or a clock put back proves it again. */
+ * without memory, for too few or too many fields, if the earlier one is refused, another key is proved, a check uses up a nonce, or a clock put back
+ * proves it again. */
 #include "http_request.h"
 #include "read_string.h"
 
@@ -38,11 +39,15 @@ static void answer(const struct spki_text *head, struct spki_text *of_fields, si
         exit(1);
     for (size_t i = 0; i < count; i++)
         fields[i] = (struct http_field){of_fields[2 * i], of_fields[2 * i + 1]};
-    if (head[BEFORE].length && http_request_refusal(&service, &request, now - atoll(head[BEFORE].octets), &proof))
+    if (head[BEFORE].length && http_request_check(&service, &request, now - atoll(head[BEFORE].octets), &proof))
         exit(1);
-    const char *why = http_request_refusal(&service, &request, now, &proof);
-    if (!why && (http_proven_key(&proof).text.octets != proof.key || http_nonces_take(service.store, head[METHOD], head[METHOD], now + 1000, 360)
-                 || !http_request_refusal(&service, &request, now, &proof)))
+    if (head[BEFORE].length && http_proof_take(&service, &proof))
+        exit(1);
+    const char *why = http_request_check(&service, &request, now, &proof);
+    if (!why && (http_proven_key(&proof).text.octets != proof.key || http_request_check(&service, &request, now, &proof)))
+        exit(1);
+    why = why ? why : http_proof_take(&service, &proof);
+    if (!why && (http_nonces_take(service.store, head[METHOD], head[METHOD], now + 1000, 360) || !http_proof_take(&service, &proof)))
         exit(1);
     printf("%s ", why ? why : "valid");
     for (size_t i = 0; !why && i < proof.digest_length; i++)
