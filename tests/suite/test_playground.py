@@ -789,8 +789,8 @@ class InChromium(OfPage):
         page. Then an example is answered again."""
         whole = "q=" + base64.urlsafe_b64encode(json.dumps(STORY).encode()).decode().rstrip("=")
         broken = [whole[:-9], whole[:40], whole[:60] + "!" + whole[60:], whole[:60] + whole[63:], "q=", whole[2:], "Q" + whole[1:], "no-such-place",
-                  "q=" + base64.b64encode(b'{"acl": "\xff"}').decode(), *({**STORY, name: 5} for name in STORY if name != "strict"), [], 5, None, {},
-                  [STORY]]
+                  "q=" + base64.b64encode(b'{"acl": "\xff"}').decode(), *({**STORY, name: 5} for name in STORY if name != "strict"), [], 5, None,
+                  {}, [STORY]]
         for state in broken:
             with self.subTest(str(state)[:60]):
                 self.go_to_link(state)

@@ -164,7 +164,8 @@ export class Answer {
     const tick = htmlElement("input", { type: "checkbox" });
     tick.checked = signature.counts;
     tick.addEventListener("change", () => this.tick([place], tick.checked));
-    const certificate = `certificate ${place + 1}`, remark = signature.madeUp ? " (made up)" : signature.isTest ? "" : " (not verified here)";
+    const certificate = `certificate ${place + 1}`;
+    const remark = signature.madeUp ? " (made up)" : signature.isTest ? "" : " (not verified here)";
     const says = htmlElement("span", { title: signature.says }, signature.isTest ? `${signature.by} signed ${certificate}`
       : `In the name of ${signature.by}, on ${certificate}`, remark && htmlElement("small", {}, remark));
     return htmlElement("li", {}, htmlElement("label", { class: "tick" }, tick, says));
