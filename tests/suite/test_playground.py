@@ -353,7 +353,7 @@ class Answers(OfPage):
         """The signature of a real key does not count, also if the page made it up, until its `id` is among the `accepted`. One of a key `(test ..)`
         counts. An `id` is of the whole signature: that of another certificate's does not serve."""
         forged = FORGED["sequence"].replace("DIGEST", f"#{hashlib.sha256(run(built.program(), 'canonical', FORGED_CERT.encode())[1]).hexdigest()}#")
-        ids = []
+        ids: list[str] = []
         for sequence in (forged, f"(sequence {FORGED_CERT})", f"(sequence {FORGED_CERT.replace('(*)', '(packages)')})"):
             question = {**FORGED, "sequence": sequence}
             answer = self.page.ask("question", **question)
@@ -789,13 +789,14 @@ class InChromium(OfPage):
         page. Then an example is answered again."""
         whole = "q=" + base64.urlsafe_b64encode(json.dumps(STORY).encode()).decode().rstrip("=")
         broken = [whole[:-9], whole[:40], whole[:60] + "!" + whole[60:], whole[:60] + whole[63:], "q=", whole[2:], "Q" + whole[1:], "no-such-place",
-                  "q=" + base64.b64encode(b'{"acl": "\xff"}').decode(), *({**STORY, name: 5} for name in STORY if name != "strict"), [], 5, None,
-                  {}, [STORY]]
+                  "q=" + base64.b64encode(b'{"acl": "\xff"}').decode(), *({**STORY, name: 5} for name in STORY if name != "strict"),
+                  [], 5, None, {}, [STORY]]
         for state in broken:
             with self.subTest(str(state)[:60]):
                 self.go_to_link(state)
                 self.until("return document.getElementById('title').textContent.includes('link cannot be read')")
-                self.assertEqual((self.text_in("kind"), self.browser.execute_script("return document.getElementById('acl').value")), ("No answer", ""))
+                self.assertEqual(self.text_in("kind"), "No answer")
+                self.assertEqual(self.browser.execute_script("return document.getElementById('acl').value"), "")
                 self.check_nothing_left()
         self.browser.execute_script("const list = document.getElementById('example'); list.value = '0'; list.dispatchEvent(new Event('change'))")
         self.until("return document.getElementById('kind').textContent === 'Yes'")
