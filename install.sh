@@ -5,18 +5,26 @@
 # ldconfig, which only root may run; otherwise the last line says what to do.
 # --uninstall removes the files that this version installs, and leaves the folders, but for those of compiled modules.
 # LIBDIR is the folder of the libraries below the prefix, if it is not `lib`, such as lib/x86_64-linux-gnu.
+# Each file is whole when it is put in its place. Interrupted, this script leaves old files and new ones, and perhaps one whose name ends in .new.
 # Usage: ./install.sh [PREFIX [PROGRAM [LIBRARY]]]        the default prefix is /usr/local; libspki_c.so is beside the LIBRARY
 #        ./install.sh --uninstall [PREFIX]
+#        ./install.sh --help
 set -euo pipefail
-uninstalls=
+uninstalls= most=3
 if [[ ${1:-} == --uninstall ]]; then
-    uninstalls=yes
+    uninstalls=yes most=1
     shift
 fi
-if [[ ${1:-} == -* || $# -gt 3 ]]; then
-    echo "usage: ./install.sh [--uninstall] [PREFIX [PROGRAM [LIBRARY]]]" >&2
-    exit 2
-fi
+# (all words are tested before anything is built)
+for word in "$@"; do
+    if [[ $word == -h || $word == --help ]]; then
+        sed -n '2,/^set /s/^# \?//p' "$0"
+        exit
+    elif [[ $word == -* || $# -gt $most ]]; then
+        echo "usage: ./install.sh [PREFIX [PROGRAM [LIBRARY]]], ./install.sh --uninstall [PREFIX] or ./install.sh --help" >&2
+        exit 2
+    fi
+done
 prefix=$(realpath -m "${1:-/usr/local}")
 program=${2:+$(realpath "$2")}
 library=${3:+$(realpath "$3")}
@@ -69,9 +77,10 @@ if [[ $uninstalls ]]; then
     exit
 fi
 
-# put MODE FILE PLACE: puts a file at a place under the prefix, and says so.
+# put MODE FILE PLACE: puts a file at a place under the prefix, at once, and says so.
 put() {
-    install -D -m "$1" "$2" "$prefix/$3"
+    install -D -m "$1" "$2" "$prefix/$3.new"
+    mv -fT "$prefix/$3.new" "$prefix/$3"
     echo "installed $prefix/$3"
 }
 

@@ -8,12 +8,13 @@
 # golang-github-lib-pq-dev. Needs Debian's dpkg, binutils, gcc, golang-go and python3.
 # Usage: ./packages.sh [--maintainer 'NAME <ADDRESS>'] [--arm64] [--postgres] [FOLDER [PROGRAM [LIBRARY]]]
 #        the packages go to FOLDER, or here; the rest is as for install.sh
+#        ./packages.sh --help
 set -euo pipefail
 export LC_ALL=C
 umask 022
 here=$(realpath "$(dirname "$0")")
 maintainer=${DEBFULLNAME:+${DEBEMAIL:+$DEBFULLNAME <$DEBEMAIL>}} arm= driver=()
-while [[ ${1:-} == --* ]]; do
+while [[ ${1:-} == --* && $1 != --help ]]; do
     case $1 in
         --maintainer) maintainer=${2:?a maintainer is \'NAME <ADDRESS>\'}; shift ;;
         --arm64) arm=aarch64-unknown-linux-gnu ;;
@@ -21,6 +22,15 @@ while [[ ${1:-} == --* ]]; do
         *) echo "packages.sh: $1 is no option" >&2; exit 2 ;;
     esac
     shift
+done
+for word in "$@"; do
+    if [[ $word == -h || $word == --help ]]; then
+        sed -n '2,/^set /s/^# \?//p' "$0"
+        exit
+    elif [[ $word == -* || $# -gt 3 ]]; then
+        echo "packages.sh: options are before FOLDER, and after it at most PROGRAM and LIBRARY: ./packages.sh --help" >&2
+        exit 2
+    fi
 done
 for tool in dpkg-deb go readelf; do
     command -v $tool > /dev/null || { echo "packages.sh: there is no $tool" >&2; exit 1; }

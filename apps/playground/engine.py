@@ -169,7 +169,8 @@ class ByProgram(Engine):
         self.program = program
         # (`__main__.py` prints ` decides` behind the name)
         self.name = "spki (compiled without proofs)" if program == UNPROVED_PROGRAM else "spki"
-        self.signed = functools.lru_cache(CACHE_SIZE)(self.list_signed)
+        # (a function of a question without `refused_signatures`, which do not matter for it)
+        self.all_signed = functools.lru_cache(CACHE_SIZE)(self.list_signed)
 
     def answer(self, name, text):
         """The octets that the program writes for a text that it gets with the command `name`. Raises `Failed`."""
@@ -200,6 +201,10 @@ class ByProgram(Engine):
                 self.command("check", case_text(acl, *canonical_texts, *readable, accepted=(), is_strict=question.is_strict))
                 raise Refused(why.line.replace(" form ", f" {name} ", 1)) from None
         return acl, *canonical_texts
+
+    def signed(self, question):
+        """The signatures as `list_signed` returns them, of which those of some questions are kept. Raises `Refused`."""
+        return self.all_signed(question._replace(refused_signatures=()))
 
     def list_signed(self, question):
         """The signatures on which the decision depends, in the order of the certificates, up to the first that has a fault: its issuer's key is not

@@ -1,6 +1,7 @@
 """A question as the page sent it, in boxes or as one case: how it is asked, and where a box is refused. A box has one text of the question: the
 access list, the sequence, the key, the request or the moment. A case is one text with all of them."""
 import functools
+import hashlib
 
 from completion import VALUE, with_signatures
 from engine import Question, Refused, case_text, request_text, string
@@ -36,6 +37,17 @@ def words_of(sent):
     return tuple(word.encode(errors="replace") for word in members(sent, "request", str, "a list of strings"))
 
 
+def id_of(signed):
+    """A name for a signature, a `Signed`: the same for no other key, message or value."""
+    # (canonical texts, none of which begins another one)
+    return hashlib.sha256(b"".join(signed)).hexdigest()
+
+
+def is_test(signed):
+    """Whether the key of a signature, a `Signed`, is a made-up one, `(public-key (test ..))`."""
+    return signed.key.startswith(b"(10:public-key(4:test")
+
+
 class SentQuestion:
     """A question of separate boxes, as octets. `sent` is the object that the page sent, whose fields may have wrong types: a text that is no string
     counts as empty, and for a list of another type the class raises `Refused`. `sequence` is a `SignedText`, which has the signatures that the page
@@ -44,15 +56,27 @@ class SentQuestion:
     def __init__(self, engine, sent):
         """`engine` is the `Engine` that decides. Raises `Refused` as the class says."""
         self.engine, self.box = engine, {name: text(sent, name).encode(errors="replace") for name in ("acl", "sequence", "key", "at")}
-        self.words, refused = words_of(sent), members(sent, "refused", int, "a list of whole numbers")
+        self.words, self.refused = words_of(sent), members(sent, "refused", int, "a list of whole numbers")
+        self.accepted = members(sent, "accepted", str, "a list of strings")
         self.sequence = with_signatures(engine, self.box["sequence"])
-        self.question = Question(self.box["acl"], self.sequence.text, self.box["key"], self.words, string(self.box["at"]),
-                                 sent.get("strict") is not False, refused)
+        self.with_all = Question(self.box["acl"], self.sequence.text, self.box["key"], self.words, string(self.box["at"]),
+                                 sent.get("strict") is not False)
+
+    @functools.cached_property
+    def question(self):
+        """The question, with the places of the signatures that do not count. Raises `Refused`."""
+        signed = enumerate(self.engine.signed(self.with_all))
+        return self.with_all._replace(refused_signatures=tuple(place for place, each in signed if not self.counts(place, each)))
+
+    def counts(self, place, signed):
+        """Whether the signature at a place, a `Signed`, counts: it is accepted, or of a made-up key and not refused. Nobody here verifies one of a
+        real key."""
+        return id_of(signed) in self.accepted or is_test(signed) and place not in self.refused
 
     def values(self):
         """The access list, the sequence, the key, the request and the moment, as values: a string is `bytes`, and a list a `list`. A request of one
         string is this string."""
-        value, question = self.engine.value, self.question
+        value, question = self.engine.value, self.with_all
         request = self.words[0] if len(self.words) == 1 else list(self.words)
         return value(question.acl), value(question.sequence), value(question.key), request, self.box["at"]
 
@@ -70,14 +94,16 @@ class SentQuestion:
 
     def signatures(self, labels):
         """The signatures on which the decision depends, as the page lists them, each a dictionary: who signed, the certificate, cut at MOST_LETTERS,
-        whether the page made the signature up, and whether it counts. `labels`, a `Labels`, learns the keys of the certificates."""
+        whether the page made the signature up, and whether it counts. `id` names it, and `isTest` says whether its key is a made-up one. `labels`, a
+        `Labels`, learns the keys of the certificates."""
         listed = []
-        for place, signed in enumerate(self.engine.signed(self.question)):
+        for place, signed in enumerate(self.engine.signed(self.with_all)):
             # (the message that is signed is the certificate)
             certificate = read(signed.message)
             labels.learn(certificate)
             listed.append({"by": labels.name_of(read(signed.key)), "says": on_one_line(certificate)[:MOST_LETTERS],
-                           "madeUp": signed.value == string(VALUE), "counts": place not in self.question.refused_signatures})
+                           "madeUp": signed.value == string(VALUE), "counts": self.counts(place, signed), "id": id_of(signed),
+                           "isTest": is_test(signed)})
         return listed
 
     def faults_by_box(self, line):
@@ -91,7 +117,7 @@ class SentQuestion:
             return {}
         if name in ("request", "at"):
             return {name: self.fault_of_words(name, line)}
-        octets = self.question.sequence if name == "sequence" else self.box[name]
+        octets = self.sequence.text if name == "sequence" else self.box[name]
         in_box = places(octets, line)
         if name == "sequence":
             in_box = [(self.sequence.offset_as_typed(at), with_certificate_numbers(why, self.heads)) for at, why in in_box]
@@ -101,7 +127,7 @@ class SentQuestion:
     def heads(self):
         """The words that the items of the sequence begin with, as octets. None for a signature that the page made up."""
         # (a signature that is added begins with a space)
-        return heads_in(self.question.sequence, [at + 1 for at, _ in self.sequence.added])
+        return heads_in(self.sequence.text, [at + 1 for at, _ in self.sequence.added])
 
     def line_for_page(self, line):
         """The line of a refusal as the page writes it: a certificate has its number among the certificates, and not among all items."""
@@ -124,7 +150,7 @@ class SentQuestion:
     def case(self):
         """The question as a case, which is one text for the program."""
         question = self.question
-        accepted = [signed for place, signed in enumerate(self.engine.signed(question)) if place not in question.refused_signatures]
+        accepted = [signed for place, signed in enumerate(self.engine.signed(self.with_all)) if place not in question.refused_signatures]
         parts = map(self.engine.canonical, (question.acl, question.sequence, question.key))
         return case_text(*parts, request_text(self.words), question.at, accepted, question.is_strict)
 

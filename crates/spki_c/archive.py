@@ -5,7 +5,8 @@ binutils.
 Both have the exports of src/, the toolchain's calls of `malloc`, `realloc` and `free`, and spki.c, which passes on from the
 calls of spki.h to the exports. They are linked into one object whose only global symbols are the calls that spki.h declares: so the
 library links beside any other, also beside another one of the toolchain, and a program links with nothing else. In the shared library
-these symbols have a version, such as SPKI_0.2, so that a program does not run with a library of another interface.
+these symbols have a version, such as SPKI_0.2, so that a program does not run with a library of another interface. All is made in
+out/new/ first: where this program ends, each library is the old one or the new one, whole.
 
 `rt ci` leaves the libraries below in a form that `rt lib` does not accept, so that it would prove all of them again. Right behind it,
 --over-gate builds over that form. --again links anew over the proved code of the last run, where only the files in C have changed.
@@ -17,7 +18,6 @@ trusted. Debian's gcc-aarch64-linux-gnu compiles and links.
 Usage: crates/spki_c/archive.py [--over-gate | --again] [--target TARGET]
 """
 import argparse
-import contextlib
 import importlib.machinery
 import importlib.util
 import os
@@ -30,8 +30,6 @@ import tempfile
 CRATE = os.path.realpath(os.path.dirname(__file__))
 ROOT = os.path.realpath(os.path.join(CRATE, "..", ".."))
 OWN, ARM = "x86_64-unknown-linux-gnu", "aarch64-unknown-linux-gnu"
-# Where `rt lib` leaves the proved code.
-MADE = "out/libspki_c.a"
 # Of each target: the folder of its libraries, its C compiler, how its other tools begin, and the Debian packages of compiler and tools.
 TARGETS = {OWN: ("out", "cc", "", "gcc", "binutils"),
            ARM: (f"out/{ARM}", "aarch64-linux-gnu-gcc", "aarch64-linux-gnu-", "gcc-aarch64-linux-gnu", "binutils-aarch64-linux-gnu")}
@@ -41,17 +39,17 @@ OF_C = ["-std=c11", "-O2", "-fPIC", "-Wall", "-Wextra", "-Wpedantic", "-Werror"]
 
 
 def toolchain(path):
-    """The module `rtlib` of the toolchain, by the path of its program `rt`. `build_over_gate` builds by it, since `rt lib` does not accept what
-    `rt ci` leaves."""
+    """The toolchain's program `rt`, loaded as a module by its path. `build_over_gate` builds by it, since `rt lib` does not accept what `rt ci`
+    leaves, and `build_as_lib`, since `rt lib` writes nowhere but over out/libspki_c.a."""
     loader = importlib.machinery.SourceFileLoader("rt", path)
     module = importlib.util.module_from_spec(importlib.util.spec_from_loader("rt", loader))
     loader.exec_module(module)
-    return module.rtlib
+    return module
 
 
 def build_over_gate(rtlib, flags, to):
-    """Builds the proved code as the file `to`, over what `rt ci` left of the libraries below. `rtlib` is the module of `toolchain`, and `flags` are
-    words of `rt lib`. Returns whether it is built: if false, `rt lib` must build it. It is not tried if these libraries are built already, or if
+    """Builds the proved code as the file `to`, over what `rt ci` left of the libraries below. `rtlib` is that of `toolchain`, and `flags` are words
+    of `rt lib`. Returns whether it is built: if false, `rt lib` must build it. It is not tried if these libraries are built already, or if
     `rt ci` has not left all of them."""
     crate = next(it for it in rtlib.crates_below(ROOT) if it.name == "spki_c")
     below = crate.below()
@@ -62,28 +60,25 @@ def build_over_gate(rtlib, flags, to):
     return crate.compile(flags, to) == 0
 
 
-@contextlib.contextmanager
-def put_aside(path):
-    """A context in which a command may write to a path. Afterwards the file that was there before, if any, is there again."""
-    aside = f"{path}.aside"
-    if os.path.exists(path):
-        os.replace(path, aside)
-    try:
-        yield
-    finally:
-        if os.path.exists(aside):
-            os.replace(aside, path)
+def build_as_lib(module, flags, to):
+    """Builds the proved code as `rt lib` does, but as the file `to`. `module` is that of `toolchain`, and `flags` are words of `rt lib`. Ends the
+    process if it fails."""
+    if not hasattr(module.rtlib.Crate, "build_static"):
+        sys.exit(f"this toolchain builds a library otherwise than {__file__} expects")
+    module.rtlib.Crate.build_static = lambda crate, words: crate.compile(words, to)
+    if status := module.main(["lib", *flags]):
+        sys.exit(status)
 
 
-def build_proved(rt, options, to):
-    """Builds the proved code as the file `to`, which --again links anew. `rt`: the path of the toolchain's program. `options`: by `arguments`."""
+def build_proved(rt, options, new, to):
+    """Builds the proved code as the file `to`, which --again links anew, in the folder `new`. `rt` is the path of the toolchain's program, and
+    `options` are by `arguments`. Ends the process if it fails."""
     flags = [] if options.target == OWN else [f"--target={options.target}"]
+    made = os.path.join(new, "proved.a")
+    if not (options.over_gate and build_over_gate(toolchain(rt).rtlib, flags, made)):
+        build_as_lib(toolchain(rt), flags, made)
     os.makedirs(os.path.dirname(to), exist_ok=True)
-    if options.over_gate and build_over_gate(toolchain(rt), flags, to):
-        return
-    with put_aside(MADE):
-        subprocess.run(["rt", "lib", *flags], check=True)
-        os.replace(MADE, to)
+    os.replace(made, to)
 
 
 def exports():
@@ -103,15 +98,15 @@ def version_script():
     return f"SPKI_{interface_version()} {{\n    global: {' '.join(name + ';' for name in exports())}\n    local: *;\n}};\n"
 
 
-def link(target, kit, proved):
-    """Links the proved code, the archive at the path `proved`, and the C code into one object, and this into both libraries. `kit` is the folder of
-    the toolchain."""
+def link(target, kit, proved, new):
+    """Links the proved code, the archive at the path `proved`, and the C code into one object, and this into both libraries, in the folder `new`.
+    Then puts them in their place. `kit` is the folder of the toolchain."""
     def run(*words):
         """Runs a command. Raises CalledProcessError if it fails."""
         subprocess.run(words, check=True)
 
     folder, cc, prefix, _, _ = TARGETS[target]
-    archive, shared = (os.path.join(folder, f"libspki_c.{end}") for end in ("a", "so"))
+    archive, shared = (os.path.join(new, f"libspki_c.{end}") for end in ("a", "so"))
     with tempfile.TemporaryDirectory() as room:
         whole, script = (os.path.join(room, name) for name in ("spki_c.o", "versions"))
         with open(script, "w", encoding="ascii") as file:
@@ -123,12 +118,11 @@ def link(target, kit, proved):
         of_kit = [os.path.join(kit, "c", "liblibc_c.a")] if target == OWN else []  # (in its place heap.c)
         run(f"{prefix}ld", "-r", "-o", whole, *of_c, "--whole-archive", proved, *of_kit)
         run(f"{prefix}objcopy", *(f"--keep-global-symbol={name}" for name in exports()), whole)
-        for old in (archive, shared):
-            if os.path.exists(old):
-                os.remove(old)
         run(f"{prefix}ar", "rcsD", archive, whole)
         run(cc, "-shared", "-o", shared, whole, f"-Wl,-soname,libspki_c.so.{interface_version()}", f"-Wl,--version-script={script}", "-Wl,-z,defs",
             "-Wl,-z,relro", "-Wl,-z,now")
+    for made in (archive, shared):
+        os.replace(made, os.path.join(folder, os.path.basename(made)))
 
 
 def arguments():
@@ -142,7 +136,7 @@ def arguments():
 
 
 def main():
-    """Builds both libraries. Ends with a message if a tool is missing, and by CalledProcessError if a command fails."""
+    """Builds both libraries. Ends with a message if a tool is missing, and by CalledProcessError if a command of C fails."""
     options = arguments()
     os.chdir(CRATE)
     folder, cc, prefix, package_of_cc, package = TARGETS[options.target]
@@ -150,10 +144,14 @@ def main():
         if not shutil.which(tool):
             sys.exit(f"there is no {tool} (Debian: {name}): it links the library")
     rt = os.path.realpath(shutil.which("rt") or sys.exit("rt is not in the path: it builds the library"))
-    proved = os.path.join(folder, "proved", "libspki_c.a")
+    proved, new = os.path.join(folder, "proved", "libspki_c.a"), os.path.join(folder, "new")
+    # (what an interrupted run has left: `ar` would add to it)
+    shutil.rmtree(new, ignore_errors=True)
+    os.makedirs(new)
     if not options.again:
-        build_proved(rt, options, proved)
-    link(options.target, os.path.dirname(os.path.dirname(rt)), proved)
+        build_proved(rt, options, new, proved)
+    link(options.target, os.path.dirname(os.path.dirname(rt)), proved, new)
+    shutil.rmtree(new)
 
 
 if __name__ == "__main__":

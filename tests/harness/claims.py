@@ -12,6 +12,8 @@ SECTION = re.compile(r"^## (.*)\n((?:(?!## ).*\n)*)", re.MULTILINE)
 CLAIM = re.compile(r"^\| .* \| ([^|]*`[^|]*) \|$", re.MULTILINE)
 # Names in rows that are no clauses: of the language, and the crate of tests. Sections whose rows name other things.
 OF_LANGUAGE, OTHER_SECTIONS = {"Send", "Sync", "test_callers"}, {"How to read a contract", "Only tested"}
+# The calls of a service of which docs/PERFORMANCE.md must say whether they have the clause `cost`.
+COUNTED = ("open", "decide_by", "grant_by", "explain_by", "reduce_by", "reduce_into")
 # A function with its contract, a block of functions of one type, and a type.
 FUNCTION = re.compile(r"^( *)(?:pub(?:\([\w:]+\))? |const |unsafe |extern \"C\" )*fn (\w+)((?:.|\n)*?)(?:\n\1| )\{\}?$", re.MULTILINE)
 BLOCK = re.compile(r"^impl\b[^{]*?(\w+)(?:<[^{]*>)? \{\n((?:.|\n)*?)^\}", re.MULTILINE)
@@ -94,6 +96,18 @@ def unclaimed(page: str, header: str, source: str) -> Iterator[str]:
         is_explained = any(name == part or part[0] == "_" and name.endswith(part) for part in explained)
         if name.replace("spki_", "spki_c_", 1) not in exports and not is_explained:
             yield f"nothing says what {name} calls"
+
+
+def wrong_costs(page: str, sources: Sources) -> Iterator[str]:
+    """A line for each function of which a page says in parentheses, as "(`f`, `g`, `cost`)" or "(`f`, no `cost`)", that its contract has the clause
+    `cost`, or has none, and which is otherwise. And one for each call of COUNTED that it names in no such place."""
+    named = []
+    for cell, negation in re.findall(r"\(((?:`[\w:]+`,\s)+)(no )?`cost`\)", text_of(page)):
+        for name in re.findall(r"`([\w:]+)`", cell):
+            named.append(name.split("::")[-1])
+            if has_clause(sources.contracts_of(name) or [], "cost") == bool(negation):
+                yield f"{name}: {negation}cost"
+    yield from (f"{name} is not named" for name in COUNTED if name not in named)
 
 
 def has_clause(contracts: list[str], name: str) -> bool:

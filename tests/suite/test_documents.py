@@ -15,8 +15,8 @@ from harness import claims, ways
 from harness.support import TOP, output_of, text_of
 
 PAGES = ["*.md", "docs/*.md", "examples/*.md", "apps/**/*.md", "bindings/**/*.md", "crates/*/CALLING.md"]
-# The octets that README.md may have, and all pages of docs/ with the pages CALLING.md.
-MOST_OF_README, MOST_OF_PAGES = 16_384, 245_760
+# The octets that README.md may have, all pages of docs/ with the pages CALLING.md, and CHANGELOG.md, which has a release in some 20 to 40 lines.
+MOST_OF_README, MOST_OF_PAGES, MOST_OF_CHANGES = 16_384, 245_760, 4_096
 LINK = re.compile(r"\]\(([^)\s]+)\)")
 TICKS = re.compile(r"`([^`\n]+)`")
 FENCED = re.compile(r"^```(\w*) ?(\S*)\n(.*?)^```$", re.MULTILINE | re.DOTALL)
@@ -132,9 +132,11 @@ class Documents(unittest.TestCase):
         self.assertEqual({path for path in named if "/out/" not in path and not glob.glob(os.path.join(TOP, path))}, set())
 
     def test_lengths(self) -> None:
-        """README.md is no longer than its limit, and docs/*.md and the pages CALLING.md together are below theirs: nobody reads long pages."""
+        """README.md and CHANGELOG.md are no longer than their limits, and docs/*.md and the pages CALLING.md together are below theirs: nobody reads
+        long pages."""
         lengths = {path: os.path.getsize(path) for pattern in PAGES for path in glob.glob(os.path.join(TOP, pattern), recursive=True)}
         self.assertLessEqual(lengths[os.path.join(TOP, "README.md")], MOST_OF_README)
+        self.assertLessEqual(lengths[os.path.join(TOP, "CHANGELOG.md")], MOST_OF_CHANGES)
         self.assertLess(sum(size for path, size in lengths.items() if "/docs/" in path or path.endswith("CALLING.md")), MOST_OF_PAGES)
 
     def test_toolchain(self) -> None:
@@ -149,6 +151,12 @@ class Documents(unittest.TestCase):
         """Each clause that a row of docs/PROOFS.md names is in the contract of a function there, which leads to each definition of the row."""
         sources = claims.Sources(below_crates("src/**/*.rt"), below_crates("specs/**/*.antt"))
         self.assertEqual(list(claims.faults("docs/PROOFS.md", sources)), [])
+
+    def test_costs(self) -> None:
+        """Each function of which docs/PERFORMANCE.md says that it has the clause `cost`, or that it has none, is so, and no call of a service is left
+        out."""
+        sources = claims.Sources(below_crates("src/**/*.rt"), [])
+        self.assertEqual(list(claims.wrong_costs("docs/PERFORMANCE.md", sources)), [])
 
     def test_ways(self) -> None:
         """Each call that docs/ARCHITECTURE.md lists on the way from octets to an answer stands in the function of its row."""

@@ -2,20 +2,62 @@
 
 A C program is compiled as `pkg-config` and CMake say, and linked with the shared library and with the static one. The header, the manual of spki, the
 README and `spki.pc` must have the version of the file VERSION. The manuals must be shown without a warning, and that of spki must name every fault
-that a refusal in the tables of `tables/` names. After uninstalling, the files that were there before must be left, and no others."""
+that a refusal in the tables of `tables/` names. After uninstalling, the files that were there before must be left, and no others. Words that are
+refused, or ask for help, build nothing, and what is interrupted leaves each library whole."""
 import os
+import pathlib
 import re
 import shlex
+import shutil
+import signal
 import subprocess
 import tempfile
+import time
+import unittest
 
 from harness import built, needs
-from harness.support import EXAMPLES, SECONDS, TESTS, TOP, output_of, tables_here, text_of
+from harness.support import EXAMPLES, SECONDS, TESTS, TOP, output_of, room_for, tables_here, text_of
 
 # The end of a row of tables/: the words behind `refused`, and %n for the line's end.
 REFUSAL = re.compile(r" refused ([A-Za-z0-9 ]+)%n$", re.MULTILINE)
 # Files that are in the folder before, and are not of this project.
 OTHERS = ("lib/libother.so", "bin/other")
+# A tool that writes its output, the word behind `-o`, for `ar` the second one and for `install` the last one, first half of it. If its name is in the
+# file `stop`, it makes the file `reached` then, and waits for its end. `rt` is a module too, as that of the toolchain, and is in the folder kit/bin.
+TOOL = """#!/usr/bin/env python3
+import os, sys, time, types
+ROOM = {room!r}
+
+def make(name, path):
+    with open(path, "w") as file:
+        file.write("half ")
+        file.flush()
+        if open(ROOM + "/stop").read() == name:
+            open(ROOM + "/reached", "w").close()
+            time.sleep({seconds})
+        file.write("new")
+
+class Crate:
+    def build_static(self, flags):
+        return self.compile(flags, "out/libspki_c.a")
+
+    def compile(self, flags, to):
+        make("rt", to)
+        return 0
+
+rtlib = types.SimpleNamespace(Crate=Crate)
+
+def main(words):
+    open(ROOM + "/ran", "w").close()
+    return Crate().build_static(words[1:])
+
+if __name__ == "__main__":
+    name, words = os.path.basename(sys.argv[0]), sys.argv[1:]
+    if name == "rt":
+        sys.exit(main(words))
+    if name != "objcopy":
+        make("shared" if "-shared" in words else name, words[1] if name == "ar" else words[-1] if name == "install" else words[words.index("-o") + 1])
+"""
 
 
 def files_below(folder: str) -> set[str]:
@@ -97,8 +139,7 @@ class Installed(built.OfLibrary):
                     self.assertEqual(output_of(os.path.join(room, "linked")), (0, ""))
 
     def test_remark_on_the_loader(self) -> None:
-        """The last line of install.sh says what to do, since the loader does not search this folder. An unknown option, as `--help`, has status 2."""
-        self.assertEqual(output_of(os.path.join(TOP, "install.sh"), "--help")[0], 2)
+        """The last line of install.sh says what to do, since the loader does not search this folder."""
         self.assertIn(f"the loader does not look into {self.prefix}/lib: name the folder in", self.output.splitlines()[-1])
 
     def test_version(self) -> None:
@@ -138,3 +179,88 @@ class Uninstalled(built.OfLibrary):
                 self.assertTrue(os.path.exists(f"{prefix}/{folder}/libspki_c.so"))
                 status, output = output_of(os.path.join(TOP, "install.sh"), "--uninstall", prefix, env={**os.environ, "LIBDIR": folder})
                 self.assertEqual((status, files_below(prefix)), (0, set(OTHERS)), output)
+
+
+class Scripts(unittest.TestCase):
+    """What install.sh, packages.sh and archive.py do with wrong words, and where they are interrupted. The tools that they call are those of TOOL."""
+
+    def setUp(self) -> None:
+        """Copies the scripts into the folder `room`, where they may write, and makes the tools in its folder `kit/bin`."""
+        self.room = room_for(self)
+        shutil.copytree(os.path.join(TOP, "crates", "spki_c"), os.path.join(self.room, "crates", "spki_c"), ignore=shutil.ignore_patterns("out"))
+        os.mkdir(os.path.join(self.room, "crates", "spki"))
+        for name in ("install.sh", "packages.sh", "VERSION"):
+            shutil.copy(os.path.join(TOP, name), self.room)
+        self.tools = os.path.join(self.room, "kit", "bin")
+        os.makedirs(self.tools)
+        for name in ("rt", "cc", "ld", "ar", "objcopy", "install"):
+            path = pathlib.Path(self.tools, name)
+            path.write_text(TOOL.format(room=self.room, seconds=SECONDS), encoding="ascii")
+            path.chmod(0o755)
+        self.write("stop", "")
+
+    def write(self, path: str, text: str) -> None:
+        """Writes a file of `room`, and makes its folder."""
+        os.makedirs(os.path.dirname(os.path.join(self.room, path)), exist_ok=True)
+        pathlib.Path(self.room, path).write_text(text, encoding="ascii")
+
+    def stopped_at(self, tool: str, number: int, words: list[str]) -> None:
+        """Runs a command, and ends it and its tools by a signal as soon as this tool has written half of its output."""
+        reached = os.path.join(self.room, "reached")
+        self.write("stop", tool)
+        with open(os.path.join(self.room, "log"), "w", encoding="ascii") as log:
+            process = subprocess.Popen(words, cwd=self.room, env={**os.environ, "PATH": f"{self.tools}:{os.environ['PATH']}"}, stdout=log, stderr=log,
+                                       start_new_session=True)
+        end = time.monotonic() + SECONDS
+        while not os.path.exists(reached):
+            self.assertTrue(process.poll() is None and time.monotonic() < end, text_of(os.path.join(self.room, "log")))
+            time.sleep(0.01)
+        os.killpg(process.pid, number)
+        process.wait()
+        os.remove(reached)
+        self.write("stop", "")
+
+    def test_words_of_scripts(self) -> None:
+        """Where a word asks for help, a script prints it with status 0. Words that are wrong have status 2 and one line. Nothing is built."""
+        prefix = os.path.join(self.room, "prefix")
+        for script, words, status in [
+                *((name, words, 0) for name in ("install.sh", "packages.sh")
+                  for words in (["--help"], ["-h"], [prefix, "--help"], [prefix, "p", "-h"])),
+                *((name, words, 2) for name in ("install.sh", "packages.sh")
+                  for words in ([prefix, "--frob"], ["-x"], [prefix, "p", "-l"], [prefix, "p", "l", "x"])),
+                ("install.sh", ["--uninstall", prefix, "p"], 2), ("install.sh", [prefix, "--uninstall"], 2),
+                ("packages.sh", ["--arm64", "--help"], 0)]:
+            with self.subTest(script=script, words=words):
+                done = subprocess.run([os.path.join(self.room, script), *words], env={**os.environ, "PATH": f"{self.tools}:{os.environ['PATH']}"},
+                                      stdout=subprocess.PIPE, stderr=subprocess.PIPE, text=True, timeout=SECONDS)
+                self.assertEqual((done.returncode, done.stderr.count("\n"), f"Usage: ./{script}" in done.stdout), (status, status // 2, not status),
+                                 done.stderr)
+        self.assertEqual([name for name in ("ran", "prefix") if os.path.exists(os.path.join(self.room, name))], [])
+
+    def test_a_library_is_old_or_new(self) -> None:
+        """Where archive.py ends, by any signal, both libraries and the proved code are as they were before or new, and never a part. The next run,
+        which nothing stops, makes them new."""
+        names = ["libspki_c.a", "libspki_c.so", "proved/libspki_c.a"]
+        command, old = [os.path.join(self.room, "crates", "spki_c", "archive.py")], dict.fromkeys(names, "old")
+        for tool, number in (("rt", signal.SIGKILL), ("rt", signal.SIGTERM), ("rt", signal.SIGINT), ("cc", signal.SIGKILL), ("ld", signal.SIGTERM),
+                             ("ar", signal.SIGKILL), ("shared", signal.SIGKILL), ("shared", signal.SIGINT)):
+            with self.subTest(tool=tool, number=number):
+                for name in names:
+                    self.write(f"crates/spki_c/out/{name}", "old")
+                self.stopped_at(tool, number, command)
+                texts = {name: text_of(os.path.join(self.room, "crates", "spki_c", "out", name)) for name in names}
+                self.assertEqual({**texts, "proved/libspki_c.a": "old"}, old)
+                self.assertIn(texts["proved/libspki_c.a"], ("old", "half new"))
+        done = subprocess.run(command, env={**os.environ, "PATH": f"{self.tools}:{os.environ['PATH']}"}, stdout=subprocess.DEVNULL, timeout=SECONDS)
+        self.assertEqual(done.returncode, 0)
+        self.assertEqual(files_below(os.path.join(self.room, "crates", "spki_c", "out")), set(names))
+        self.assertEqual({text_of(os.path.join(self.room, "crates", "spki_c", "out", name)) for name in names}, {"half new"})
+
+    def test_an_installed_file_is_old_or_new(self) -> None:
+        """Where install.sh ends while it installs, the file that it was to replace is whole."""
+        for name in ("spki", "libspki_c.a", "libspki_c.so"):
+            self.write(name, "new")
+        self.write("prefix/bin/spki", "old")
+        words = [*(os.path.join(self.room, name) for name in ("install.sh", "prefix", "spki", "libspki_c.a"))]
+        self.stopped_at("install", signal.SIGKILL, words)
+        self.assertEqual(text_of(os.path.join(self.room, "prefix", "bin", "spki")), "old")

@@ -16,6 +16,8 @@ from merge_gate import bodies, records, toolchain
 
 # The beginning of each line of an edit that the toolchain reads.
 READ = re.compile(r"(file: |old: |new:|$)")
+# What CONTRIBUTING.md says of wrong bodies: the lines that a public function may have without one, and which longer ones have none.
+WITHOUT = re.compile(r"each public function of more than (\d+) lines, except ((?:`[\w:]+`(?:,\s| and\s)?)+)\.")
 # The line on the last run: of all, with its seed in the same paragraph, or of the wrong bodies of crates that the command named.
 LINE = re.compile(r"Last run of `\.ci/deep`: commit ([0-9a-f]{12,40}), \d+ passed, 0 failed, "
                   r"(?:wrong bodies only, |(?:.|\n(?!\n))*\b1,000,000 (?:.|\n(?!\n))*\bseed [0-9a-f]{8}\b)")
@@ -39,6 +41,28 @@ def faults_of_wrong_bodies() -> Iterator[str]:
                 yield f"{os.path.relpath(path, ROOT)}: {why or f'this line is not read: {unread[0]}'}"
 
 
+def functions_without_wrong_bodies(most: int) -> Iterator[str]:
+    """The name of each public function whose body has over `most` lines of code, and that no wrong body changes. (Those of the crates of tests have
+    none.)"""
+    for crate in toolchain.crates().values():
+        paths = bodies.paths_of(crate)
+        changed = {function for path in paths for function in bodies.body_of(path, crate.folder).functions}
+        for source in glob.glob(os.path.join(crate.folder, "src", "**", "*.rt"), recursive=True) if paths else []:
+            lines = text_of(source).split("\n")
+            for at, line in enumerate(lines):
+                head = bodies.HEAD.match(line)
+                if head and re.match(r" *pub (?!\()", line):
+                    path = bodies.path_of(os.path.relpath(source, crate.folder), lines, at, head[2])
+                    if path not in changed and code_lines(lines[at:], head[1]) > most:
+                        yield head[2]
+
+
+def code_lines(lines: list[str], indentation: str) -> int:
+    """How many lines of code the body of a function has. `lines` begin with its head, which is indented so, and do not end with it."""
+    body = lines[lines.index(f"{indentation}{{") + 1:lines.index(f"{indentation}}}")] if f"{indentation}{{" in lines else []
+    return sum(bool(line.strip()) and not line.strip().startswith("//") for line in body)
+
+
 def git(*words):
     """Runs git in the repository. Returns the `CompletedProcess`, with its standard output as text, whatever its status."""
     return subprocess.run(["git", *words], cwd=ROOT, stdout=subprocess.PIPE, stderr=subprocess.DEVNULL, text=True)
@@ -60,6 +84,12 @@ class Layout(unittest.TestCase):
     def test_wrong_bodies(self) -> None:
         faults = list(faults_of_wrong_bodies())
         self.assertEqual(faults, [], "\n".join(faults))
+
+    def test_functions_without_wrong_bodies(self) -> None:
+        """The functions that have none, of those that CONTRIBUTING.md speaks of, are those that it names."""
+        said = WITHOUT.findall(text_of("CONTRIBUTING.md"))
+        self.assertEqual(len(said), 1, "CONTRIBUTING.md has not one sentence on these functions, as WITHOUT has it")
+        self.assertEqual(sorted(functions_without_wrong_bodies(int(said[0][0]))), sorted(re.findall(r"(\w+)`", said[0][1])))
 
     def test_links(self) -> None:
         """`rt ci` refuses symbolic links in the repository, which git lists with the mode 120000."""

@@ -5,7 +5,9 @@ alone, a link, 360 pixels, and that nothing of an answer stays when it is not th
 has left the program, and says this command where nothing is built. `bench/playground.py` measures its times by `InChromium`. An answer is an object
 of JSON: `line` is what the program's command `check` says, `reasons` has an object for each line of `explain` but `no entries`, and `faults` the
 mistakes by box, each with its `places` in the text. STORY is the question of the first example, which is granted: Carol requests a right."""
+import base64
 import contextlib
+import hashlib
 import http.client
 import io
 import json
@@ -50,6 +52,48 @@ PASTED = [
     ("acl", "alice", "\ue000alice", "\ue000", 'a string with `\ue000` needs quotes: `"\ue000alice"`'),
     ("acl", "(acl", "\ufeff(acl", "\ufeff", "a byte order mark is before the text, and is invisible"),
     ("acl", "(acl", "(acl\u00a0", "\u00a0", "the invisible character U+00A0, no-break space")]
+
+
+# A key of Ed25519, which is no made-up one, and a question in which its signature is forged: both numbers are 0.
+REAL = f"(public-key (ecc (curve Ed25519) (flags eddsa) (q #{'4a' * 32}#)))"
+FORGED_CERT = f"(cert (issuer {REAL}) (subject {STORY['key']}) (tag (*)))"
+FORGED = {**STORY, "acl": f"(acl (entry {REAL} (propagate) (tag (*))))", "labels": "",
+          "sequence": f"(sequence {FORGED_CERT} (signature (hash sha256 DIGEST) {REAL} (sig-val (eddsa (r #{'00' * 32}#) (s #{'00' * 32}#)))))"}
+# The private key of RFC 8410, section 10.3, between the lines BEGIN and END, and S-expressions of private keys, whose numbers are no real ones.
+OF_RFC_8410 = "MC4CAQAwBQYDK2VwBCIEINTuctv5E1hK1bbY8fdp+K06/nwoy/HU++CXqI9EdVhC"
+SECRET = "9ecc55" + "ab" * 29
+PRIVATE = f"(private-key (ecc (curve Ed25519) (flags eddsa) (q #{'4a' * 32}#) (d #{SECRET}#)))"
+
+
+def pem(kind: str, body: str) -> str:
+    """A block of PEM of a kind, as `PRIVATE KEY`, with this text between its lines BEGIN and END."""
+    return f"-----BEGIN {kind}-----\n{body}\n-----END {kind}-----\n"
+
+
+def private_texts() -> dict[str, str]:
+    """Texts with a private key, in the forms in which people have one, by their names: those of openssl and ssh-keygen as these write them."""
+    with tempfile.TemporaryDirectory() as room:
+        path = os.path.join(room, "key")
+        made = {"PKCS#8": ["openssl", "genpkey", "-algorithm", "ed25519"], "PKCS#1": ["openssl", "genrsa", "-traditional", "2048"],
+                "SEC1": ["openssl", "ecparam", "-name", "prime256v1", "-genkey", "-noout"],
+                "PKCS#8, encrypted": ["openssl", "genpkey", "-algorithm", "ed25519", "-aes256", "-pass", "pass:sesame"]}
+        texts = {name: subprocess.run(words, stdout=subprocess.PIPE, stderr=subprocess.DEVNULL, check=True, text=True).stdout
+                 for name, words in made.items()}
+        subprocess.run(["ssh-keygen", "-q", "-t", "ed25519", "-N", "", "-f", path], check=True)
+        texts["OpenSSH"] = text_of(path)
+    canonical, transport = (run(built.program(), form, PRIVATE.encode())[1].decode("latin-1") for form in ("canonical", "transport"))
+    # (a canonical text may have any octets, each of which is a character here)
+    return {**texts, "PKCS#8 without its first line": texts["PKCS#8"].split("\n", 1)[1], "cut off": texts["PKCS#8"][:80],
+            "of RFC 8410": pem("PRIVATE KEY", OF_RFC_8410), "advanced": PRIVATE, "canonical": canonical, "transport": transport,
+            "transport, in lines": re.sub("(.{40})", r"\1\n", transport), "behind spaces": PRIVATE.replace("(", " (\n "),
+            "head in quotes": PRIVATE.replace("private-key", '"private-key"'), "head in hexadecimal": PRIVATE.replace(
+                "private-key", f"#{b'private-key'.hex()}#"), "head by an escape": PRIVATE.replace("private-key", '"private\\x2dkey"'),
+            "head in base64": PRIVATE.replace("private-key", "|cHJpdmF0ZS1rZXk=|"), "head with a length": PRIVATE.replace(
+                "private-key", '11"private-key"'), "with a display hint": PRIVATE.replace("private-key", "[key]private-key"),
+            "not whole": PRIVATE[:-20], "inside a list": f"(acl (entry {PRIVATE} (tag (*))))", "of GnuPG": f"Key: (protected-{PRIVATE[1:]}",
+            "of RSA": PRIVATE.replace("(ecc (curve Ed25519) (flags eddsa)", "(rsa (n #00#) (e #010001#)"),
+            "of PuTTY": f"PuTTY-User-Key-File-3: ssh-ed25519\nPrivate-Lines: 1\n{SECRET}\n", "of age": f"AGE-SECRET-KEY-1{SECRET.upper()}",
+            "of WireGuard": f"[Interface]\nPrivateKey = {SECRET[:43]}=\n", "a JWK": f'{{"kty": "OKP", "crv": "Ed25519", "x": "", "d": "{SECRET}"}}'}
 
 
 class Page:
@@ -305,11 +349,30 @@ class Answers(OfPage):
         self.assertEqual((answer["line"], line_of_reason(answer["reasons"][0])), ("no", "item 1 NotAccepted"))
         self.assertFalse(answer["signatures"][0]["counts"])
 
+    def test_a_signature_of_a_real_key(self) -> None:
+        """The signature of a real key does not count, also if the page made it up, until its `id` is among the `accepted`. One of a key `(test ..)`
+        counts. An `id` is of the whole signature: that of another certificate's does not serve."""
+        forged = FORGED["sequence"].replace("DIGEST", f"#{hashlib.sha256(run(built.program(), 'canonical', FORGED_CERT.encode())[1]).hexdigest()}#")
+        ids: list[str] = []
+        for sequence in (forged, f"(sequence {FORGED_CERT})", f"(sequence {FORGED_CERT.replace('(*)', '(packages)')})"):
+            question = {**FORGED, "sequence": sequence}
+            answer = self.page.ask("question", **question)
+            signature = answer["signatures"][0]
+            self.assertEqual((answer["line"], line_of_reason(answer["reasons"][0]), signature["counts"], signature["isTest"]),
+                             ("no", "item 1 NotAccepted", False, False))
+            self.assertEqual({span["answer"] for span in self.page.ask("times", **question)["spans"]}, {"no"})
+            for accepted, line in ((ids, "no"), (["x"], "no"), ([*ids, signature["id"]], "yes entry 1")):
+                self.assertEqual(self.page.ask("question", **question, accepted=accepted)["line"], line)
+            ids.append(signature["id"])
+        signature = self.page.ask("question", **STORY)["signatures"][0]
+        self.assertEqual((signature["counts"], signature["isTest"], signature["id"] in ids), (True, True, False))
+
     def test_what_is_no_question(self) -> None:
         """The server answers each JSON object. If the field `request` or `refused` is no list of the right type, a refusal names field and type."""
         for question in ({}, {"acl": 5, "request": "x", "refused": "x"}, {"request": [1, None]}, {"acl": "(" * 100_000}, {"acl": "\ud800"}):
             self.assertEqual(self.page.ask("question", **question)["kind"], "refused")
         for name, kind, values in (("request", "a list of strings", (5, "x", {}, [*STORY["request"], 5])),
+                                   ("accepted", "a list of strings", (5, [5], "x")),
                                    ("refused", "a list of whole numbers", (True, 5, ["0"], [True], [0.0]))):
             why = f"the field `{name}` must be {kind}"
             for value in values:
@@ -671,6 +734,98 @@ class InChromium(OfPage):
         self.browser.get(address)
         self.until("return document.getElementById('kind').textContent === 'No'")
         self.assertEqual(self.browser.execute_script("return document.getElementById('request').value"), "packages\nwrite\n/builds/\u00fc")
+
+    @needs.needs("openssl", "ssh-keygen")
+    def test_a_private_key_leaves_no_box(self) -> None:
+        """A box into which a private key is pasted, in any form, is emptied and says so. The key is in no question to the server and in no link."""
+        boxes = [("question", name) for name in ("key", "acl", "sequence", "request", "labels")] + [("case", "case"), ("forms", "value")] + [
+            ("tags", name) for name in ("first-tag", "second-tag", "words")]
+        self.browser.execute_script("window.sent = []; const before = fetch;"
+                                    "window.fetch = (url, it) => { sent.push(it.body); return before(url, it); }")
+        for place, (name, text) in enumerate(private_texts().items()):
+            tab, box = boxes[place % len(boxes)]
+            with self.subTest(f"{name} in {box}"):
+                self.open_tab(tab)
+                self.paste(box, text)
+                value, says = self.browser.execute_script("const it = document.getElementById(arguments[0]); return [it.value, document"
+                                                          ".getElementById(`${it.id}-fault`).textContent]", box)
+                self.assertEqual((value, "was emptied" in says), ("", True), says)
+                self.browser.find_element("id", "link").click()
+                self.until("return location.hash")
+                secret = max(re.findall(r"[\w+/]{12,}", text), key=len)
+                kept = self.browser.execute_script("const letters = atob(location.hash.slice(3).replaceAll('-', '+').replaceAll('_', '/'));"
+                                                   "history.replaceState(null, '', location.pathname);"
+                                                   "return sent.map((it) => new TextDecoder().decode(it)).join() + letters")
+                self.assertNotIn(secret, kept)
+        # (the remark stays until the box has another text, also behind the answer to the empty one)
+        self.open_tab("question")
+        self.until("return document.getElementById('kind').textContent === 'Refused'")
+        self.assertIn("was emptied", self.text_in("key-fault"))
+        self.paste("key", "(public-key (test carol))")
+        self.until("return !document.getElementById('key-fault').textContent")
+
+    def test_a_link_with_a_private_key(self) -> None:
+        """A link that was made elsewhere and has a private key: the box is emptied, and the address no longer has it."""
+        self.go_to_link({**STORY, "key": pem("PRIVATE KEY", OF_RFC_8410)})
+        self.until("return document.getElementById('key-fault').textContent.includes('was emptied')")
+        self.assertEqual(self.browser.execute_script("return [document.getElementById('key').value, location.hash]"), ["", ""])
+
+    def test_what_is_no_private_key(self) -> None:
+        """Public keys, certificates and words such as `private-key` in a tag stay in their box."""
+        texts = [STORY["acl"], FORGED["sequence"], REAL, pem("PUBLIC KEY", "MCowBQYDK2VwAyEAGb9ECWmEzf6FQbrBZ9w7lshQhqowtrbLDFw4rXAxZuE="),
+                 "ssh-ed25519 AAAAC3NzaC1lZDI1NTE5AAAAIPtQvHqv+7HZ4L private-key@host", "(packages private-key)", "(private-key read)"]
+        for text in texts:
+            self.paste("acl", text)
+            self.assertEqual(self.browser.execute_script("return document.getElementById('acl').value"), text)
+
+    def go_to_link(self, state):
+        """Opens the page by a link with a state, an object, or with a text behind `#`."""
+        letters = state if isinstance(state, str) else "q=" + base64.urlsafe_b64encode(json.dumps(state).encode()).decode().rstrip("=")
+        self.browser.get("about:blank")
+        self.browser.get(f"{self.page.address.geturl()}#{letters}")
+
+    def test_a_link_that_cannot_be_read(self) -> None:
+        """A link that was cut off or changed, or has no question, shows what is wrong and no answer, also if it is put into the address of an opened
+        page. Then an example is answered again."""
+        whole = "q=" + base64.urlsafe_b64encode(json.dumps(STORY).encode()).decode().rstrip("=")
+        broken = [whole[:-9], whole[:40], whole[:60] + "!" + whole[60:], whole[:60] + whole[63:], "q=", whole[2:], "Q" + whole[1:], "no-such-place",
+                  "q=" + base64.b64encode(b'{"acl": "\xff"}').decode(), *({**STORY, name: 5} for name in STORY if name != "strict"),
+                  [], 5, None, {}, [STORY]]
+        for state in broken:
+            with self.subTest(str(state)[:60]):
+                self.go_to_link(state)
+                self.until("return document.getElementById('title').textContent.includes('link cannot be read')")
+                self.assertEqual(self.text_in("kind"), "No answer")
+                self.assertEqual(self.browser.execute_script("return document.getElementById('acl').value"), "")
+                self.check_nothing_left()
+        self.browser.execute_script("const list = document.getElementById('example'); list.value = '0'; list.dispatchEvent(new Event('change'))")
+        self.until("return document.getElementById('kind').textContent === 'Yes'")
+        self.browser.execute_script("location.hash = 'q=x'")
+        self.until("return document.getElementById('title').textContent.includes('link cannot be read')")
+        self.assertEqual(self.text_in("kind"), "No answer")
+
+    def test_a_signature_of_a_real_key_is_not_ticked(self) -> None:
+        """The forged signature of a real key has no tick, and the page does not say that the key signed. A tick that a person sets is not in a link,
+        and does not count for another signature that comes in its place."""
+        digest = hashlib.sha256(run(built.program(), "canonical", FORGED_CERT.encode())[1]).hexdigest()
+        self.paste("acl", FORGED["acl"])
+        self.paste("sequence", FORGED["sequence"].replace("DIGEST", f"#{digest}#"))
+        self.until("return document.getElementById('line').textContent === 'no, certificate 1 NotAccepted'")
+        ticks = "return [...document.querySelectorAll('#signatures input, #all')].map((it) => it.checked)"
+        self.assertEqual(self.browser.execute_script(ticks), [False, False])
+        self.assertNotIn("signed", self.text_in("signatures"))
+        self.browser.find_element("css selector", "#signatures input").click()
+        self.until("return document.getElementById('kind').textContent === 'Yes'")
+        self.browser.find_element("id", "link").click()
+        address = self.until("return location.hash && location.href")
+        self.paste("sequence", FORGED["sequence"].replace("DIGEST", f"#{digest}#").replace("00" * 32, "01" * 32))
+        self.until("return document.getElementById('line').textContent === 'no, certificate 1 NotAccepted'")
+        self.browser.get("about:blank")
+        self.browser.get(address)
+        self.until("return document.getElementById('line').textContent === 'no, certificate 1 NotAccepted'")
+        self.browser.find_element("id", "all").click()
+        self.until("return document.getElementById('kind').textContent === 'Yes'")
+        self.assertEqual(self.browser.execute_script(ticks), [True, True])
 
     def test_fits_360_pixels(self) -> None:
         self.addCleanup(self.browser.execute_cdp_cmd, "Emulation.clearDeviceMetricsOverride", {})

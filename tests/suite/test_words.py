@@ -2,13 +2,14 @@
 
 Wrong words end with status 2, nothing on standard output and a message or the usage on standard error; help with status 0, nothing on
 standard output and the help on standard error, which names the exit statuses 0, 2 and 3. The help of the program begins with what it does."""
+import re
 import subprocess
 
 from harness import built
-from harness.support import COMMANDS, SECONDS
+from harness.support import COMMANDS, SECONDS, text_of
 
 WRONG = [(), (b"frob",), (b"check", b"check"), (b"",), (b"\xff",), (b"check", b"\xff"), (b"Check",), (b"check ",), (b"--",),
-         (b"--frob",), (b"check", b"--frob"), (b"help",)]
+         (b"--frob",), (b"check", b"--frob"), (b"help",), (b"--version",), (b"-V",), (b"check", b"--version")]
 HELP = [(b"--help",), (b"-h",)] + [(command.encode(), b"--help") for command in COMMANDS]
 STATUSES = (b"\n  0  ", b"\n  2  ", b"\n  3  ")  # (1 is no, which only some commands answer)
 TEXT = b"(1:a)"
@@ -41,6 +42,12 @@ class Words(built.OfProgram):
                 is_help = b"Usage: spki" in errors and all(each in errors for each in STATUSES)
                 self.assertEqual((status, out, is_help), (0, b"", True), f"spki {b' '.join(words)!r}: {errors!r}")
         self.assertTrue(self.run_with((b"--help",))[2].startswith(b"Decides"))
+
+    def test_manual(self) -> None:
+        """The manual says where the help is written, and that there is no `--version`. Both are so, by the tests above."""
+        manual = re.sub(r"^\.\w+ |[\\\"]", "", text_of("docs/spki.1"), flags=re.MULTILINE).replace("\n", " ")
+        sentences = ("The help is written on standard error, with exit status 0.", "There is no --version : the version is at the foot of this page.")
+        self.assertEqual([sentence for sentence in sentences if sentence not in manual], [])
 
     def test_one_right_command(self) -> None:
         self.assertEqual(self.run_with((b"canonical",)), (0, TEXT, b""))

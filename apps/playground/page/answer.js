@@ -21,17 +21,15 @@ export function showNotice(id, text) {
 
 export class Answer {
   /** `boxes` are all boxes of the page by their names. The function `changed` is called when a user has changed the tick of a signature, or of all.
-    * The field `refused` has the places, from 0, of the signatures that do not count. Draws the picture again when its width changes. */
+    * The field `refused` has the places, from 0, of signatures whose tick was taken away, and `accepted` the names of those that were ticked, which
+    * the server has made of the whole signatures. Draws the picture again when its width changes. */
   constructor(boxes, changed) {
     this.boxes = boxes;
     this.changed = changed;
-    this.refused = [];
+    [this.signatures, this.refused, this.accepted] = [[], [], []];
     // (what is shown: the chain, and what signatures and picture were made of, as text, so that they are not made again)
     this.chain = this.signaturesKey = this.pictureKey = null;
-    byId("all").addEventListener("input", () => {
-      this.refused = byId("all").checked ? [] : [...byId("signatures").children].map((_, place) => place);
-      changed();
-    });
+    byId("all").addEventListener("input", () => this.tick([...this.signatures.keys()], byId("all").checked));
     new ResizeObserver(() => this.draw()).observe(byId("picture"));
   }
 
@@ -140,28 +138,36 @@ export class Answer {
   /** Lists the signatures with their ticks, unless they are shown already, and dims the list if the answer has none yet. A tick that has the focus
     * keeps it. */
   showSignatures(answer) {
-    const key = JSON.stringify([answer.signatures, this.refused]);
+    const key = JSON.stringify(answer.signatures);
     byId("signatures").classList.toggle("old", !answer.signatures);
     if (!answer.signatures || key === this.signaturesKey) {
       return;
     }
-    this.signaturesKey = key;
+    [this.signaturesKey, this.signatures] = [key, answer.signatures];
+    byId("all").checked = this.signatures.every((signature) => signature.counts);
     const focused = [...byId("signatures").querySelectorAll("input")].indexOf(document.activeElement);
     byId("signatures").replaceChildren(...answer.signatures.map((signature, place) => this.signatureItem(signature, place)));
     byId("signatures").querySelectorAll("input")[focused]?.focus();
   }
 
-  /** The element of HTML for a signature, by its place from 0: a tick, which says whether the signature counts, and who signed what. */
+  /** Ticks the signatures at some places, or takes their ticks away. */
+  tick(places, isTicked) {
+    const names = places.map((place) => this.signatures[place].id);
+    this.refused = [...this.refused.filter((place) => !places.includes(place)), ...(isTicked ? [] : places)];
+    this.accepted = [...this.accepted.filter((name) => !names.includes(name)), ...(isTicked ? names : [])];
+    this.changed();
+  }
+
+  /** The element of HTML for a signature, by its place from 0: a tick, which says whether the signature counts, and who signed what. Of a real key the
+    * page cannot say that it signed. */
   signatureItem(signature, place) {
     const tick = htmlElement("input", { type: "checkbox" });
-    tick.checked = !this.refused.includes(place);
-    tick.addEventListener("change", () => {
-      this.refused = tick.checked ? this.refused.filter((other) => other !== place) : [...this.refused, place];
-      byId("all").checked = !this.refused.length;
-      this.changed();
-    });
-    const says = htmlElement("span", { title: signature.says }, `${signature.by} signed certificate ${place + 1}`,
-      signature.madeUp ? htmlElement("small", {}, " (made up)") : "");
+    tick.checked = signature.counts;
+    tick.addEventListener("change", () => this.tick([place], tick.checked));
+    const certificate = `certificate ${place + 1}`;
+    const remark = signature.madeUp ? " (made up)" : signature.isTest ? "" : " (not verified here)";
+    const says = htmlElement("span", { title: signature.says }, signature.isTest ? `${signature.by} signed ${certificate}`
+      : `In the name of ${signature.by}, on ${certificate}`, remark && htmlElement("small", {}, remark));
     return htmlElement("li", {}, htmlElement("label", { class: "tick" }, tick, says));
   }
 

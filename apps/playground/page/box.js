@@ -1,11 +1,15 @@
 // A box for a text, in which places can be underlined: a mirror of the text lies behind it. A place says where a text is refused, and why.
 import { htmlElement } from "./dom.js";
+import { hasPrivateKey } from "./secret.js";
+
+const SECRET = "A private key belongs into no box, and this one was emptied. `spki-cert key FILE` writes the public key. If somebody saw the private "
+  + "one, replace it.";
 
 export class Box {
   /** Fills an element that has a label and a hint. `changed` is called when a user has changed the text. */
   constructor(element, changed) {
-    // (what is shown of a refusal, as text, so that it is not made again)
-    this.faultKey = "";
+    // (what is shown of a refusal, as text, so that it is not made again, and the remark on a private key that was in the box)
+    this.faultKey = this.remark = "";
     const label = element.querySelector("label");
     this.name = label.htmlFor;
     this.text = htmlElement("textarea", { id: this.name, rows: 1, spellcheck: "false", autocomplete: "off", autocapitalize: "off",
@@ -14,10 +18,20 @@ export class Box {
     this.faults = htmlElement("ul", { class: "fault", id: `${this.name}-fault` });
     element.append(htmlElement("div", { class: "field" }, this.mirror, this.text), this.faults);
     this.text.addEventListener("input", () => {
-      this.fillMirror();
+      this.dropPrivateKey();
       changed();
     });
     this.showFault(null);
+  }
+
+  /** Empties the box if its text has a private key, and shows a remark that says so, which stays until the text is changed again. */
+  dropPrivateKey() {
+    this.remark = hasPrivateKey(this.value) ? SECRET : "";
+    if (this.remark) {
+      this.text.value = "";
+      this.showFault(null);
+    }
+    this.fillMirror();
   }
 
   /** The text that is typed. */
@@ -25,9 +39,10 @@ export class Box {
     return this.text.value;
   }
 
-  /** Replaces the text. A refusal of the old one is no longer shown, and `changed` is not called. */
+  /** Replaces the text, by an empty one if it has a private key. A refusal of the old one is no longer shown, and `changed` is not called. */
   set value(text) {
     this.text.value = text;
+    this.dropPrivateKey();
     this.showFault(null);
   }
 
@@ -36,14 +51,15 @@ export class Box {
     const places = fault?.places ?? [];
     this.fillMirror(places[0]);
     this.text.setAttribute("aria-invalid", String(Boolean(fault)));
-    const key = JSON.stringify(fault);
+    const key = JSON.stringify([this.remark, fault]);
     if (key === this.faultKey) {
       return;
     }
     this.faultKey = key;
     // (four places are enough: a deep text may have one for each list that is open)
     const further = places.slice(1, 4).map((place) => this.furtherItem(place));
-    this.faults.replaceChildren(...(fault ? [this.firstItem(fault, places[0]), ...further] : []));
+    const remark = this.remark ? [htmlElement("li", {}, this.remark)] : [];
+    this.faults.replaceChildren(...remark, ...(fault ? [this.firstItem(fault, places[0]), ...further] : []));
   }
 
   /** The element of HTML for the first place of a refusal, or for a refusal without a place. */

@@ -8,15 +8,20 @@ export function linkTo(state) {
   return `${location.origin}${location.pathname}#q=${letters.replaceAll("+", "-").replaceAll("/", "_").replaceAll("=", "")}`;
 }
 
-/** The state in the fragment of this page's address, or null if there is none that can be read. */
+/** The state in the fragment of this page's address, or null if it has none, as behind the link to the answer. Throws an error if what it has cannot
+  * be read, or has no question: it was cut off, or changed on its way. */
 export function stateInFragment() {
-  const match = /^#q=([\w-]+)$/.exec(location.hash);
-  // (without a match `match[1]` throws an error too)
-  try {
-    const letters = atob(match[1].replaceAll("-", "+").replaceAll("_", "/"));
-    const state = JSON.parse(new TextDecoder().decode(Uint8Array.from(letters, (letter) => letter.charCodeAt(0))));
-    return typeof state === "object" ? state : null;
-  } catch {
+  if (["", "#answer"].includes(location.hash)) {
     return null;
   }
+  const [, encoded] = /^#q=([\w-]+)$/.exec(location.hash);
+  const letters = atob(encoded.replaceAll("-", "+").replaceAll("_", "/"));
+  const octets = Uint8Array.from(letters, (letter) => letter.charCodeAt(0));
+  const state = JSON.parse(new TextDecoder("utf-8", { fatal: true }).decode(octets));
+  const isList = (list, isMember) => Array.isArray(list) && list.every(isMember), isText = (value) => typeof value === "string";
+  if (!isList(["acl", "sequence", "key", "labels", "at"].map((name) => state[name]), isText) || !isList(state.request, isText)
+    || !isList(state.refused, Number.isSafeInteger)) {
+    throw new TypeError("no question");
+  }
+  return state;
 }

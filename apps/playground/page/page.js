@@ -35,11 +35,14 @@ function moment() {
   return date && `${date}_${time.length === 5 ? `${time}:00` : time.slice(0, 8)}`;
 }
 
-/** The question in boxes, as the object that is sent to the server. */
+/** The question in boxes, as a link has it. The ticks of real keys are not in it: who opens the link has verified nothing. */
 function question() {
   return { acl: boxes.acl.value, sequence: boxes.sequence.value, key: boxes.key.value, request: lines(boxes.request.value), at: moment(),
-    labels: boxes.labels.value, refused: answer.refused, strict: byId("strict").checked, withCase: byId("text-card").open };
+    labels: boxes.labels.value, refused: answer.refused, strict: byId("strict").checked };
 }
+
+/** The question in boxes, as the object that is sent to the server. */
+const asked = () => ({ ...question(), accepted: answer.accepted, withCase: byId("text-card").open });
 
 /** Shows an answer of the server. If it decides or refuses the question in boxes, the server is then asked at which times the answer is yes.
  * Otherwise the scale of time is hidden. */
@@ -55,9 +58,9 @@ function showAnswer(reply) {
 /** How often something that is asked was changed so far. An answer is out of date if this has grown since its question was sent. */
 const countChanges = () => changes;
 const askers = {
-  question: asker("question", question, showAnswer, countChanges),
+  question: asker("question", asked, showAnswer, countChanges),
   case: asker("case", () => ({ text: boxes.case.value, labels: boxes.labels.value }), showAnswer, countChanges),
-  times: asker("times", question, (reply) => times.show(reply), countChanges),
+  times: asker("times", asked, (reply) => times.show(reply), countChanges),
   tags: asker("tags", () => ({ first: boxes.first.value, second: boxes.second.value, request: lines(boxes.words.value) }),
     (reply) => showTags(boxes, reply), countChanges),
   forms: asker("forms", () => ({ text: boxes.value.value }), (reply) => showForms(boxes, reply), countChanges),
@@ -72,20 +75,16 @@ function changed() {
 
 // ---- what is chosen
 
-/** A value of an example or of the address if it is a text, otherwise an empty text. (`String` would throw an error for some objects.) */
-const textOf = (value) => (typeof value === "string" ? value : "");
-
-/** Fills the boxes of the panel for a question by `given`, an object as `question` returns it, of an example or of the address: its types may be
- * wrong. */
+/** Fills the boxes of the panel for a question by `given`, an object as `question` returns it, of an example or of the address. What is missing in
+ * it is empty. */
 function load(given) {
   for (const name of ["acl", "sequence", "key", "labels"]) {
-    boxes[name].value = textOf(given[name]);
+    boxes[name].value = given[name] ?? "";
   }
-  boxes.request.value = (Array.isArray(given.request) ? given.request : []).map(textOf).join("\n");
-  byId("at").value = textOf(given.at).replace("_", "T");
+  boxes.request.value = given.request?.join("\n") ?? "";
+  byId("at").value = given.at?.replace("_", "T") ?? "";
   byId("strict").checked = given.strict !== false;
-  answer.refused = (Array.isArray(given.refused) ? given.refused : []).filter(Number.isSafeInteger);
-  byId("all").checked = !answer.refused.length;
+  [answer.refused, answer.accepted] = [given.refused ?? [], []];
 }
 
 /** Fills the boxes of the other panels by `given`, an object with a text for each box by its name. A box whose text is missing stays as it is. */
@@ -99,6 +98,12 @@ function loadOthers(given) {
 
 /** Shows a panel, or that of the question if there is none of this name, and asks what is in it. */
 function choose(panel) {
+  show(panel);
+  changed();
+}
+
+/** Shows a panel, or that of the question if there is none of this name. */
+function show(panel) {
   chosen = PANELS.includes(panel) ? panel : "question";
   for (const name of PANELS) {
     const isChosen = name === chosen;
@@ -109,7 +114,6 @@ function choose(panel) {
   byId("answer").hidden = byId("verdict").hidden = !["question", "case"].includes(chosen);
   // (a notice is about the verdict, and hidden with it. Only the next answer shows one again)
   byId("notice").hidden ||= byId("verdict").hidden;
-  changed();
 }
 
 /** Chooses another panel by an arrow key, Home or End. */
@@ -158,13 +162,29 @@ function offerExamples(examples) {
   });
 }
 
-/** Fills the boxes with what the address holds, and chooses its panel. If it holds nothing, chooses the panel that is shown, which asks again. */
+/** Fills the boxes with what the address holds, and chooses its panel. If it holds nothing, chooses the panel that is shown, which asks again. If it
+ * cannot be read, empties the boxes of the question and says so. The address keeps no private key. */
 function restore() {
-  const given = stateInFragment();
-  if (given) {
-    load(given);
-    loadOthers(given);
+  let given, isBroken = false;
+  try {
+    given = stateInFragment();
+  } catch {
+    isBroken = true;
+  }
+  if (given || isBroken) {
+    load(given ?? {});
+    loadOthers(given ?? {});
     byId("example").value = "";
+  }
+  if (Object.values(boxes).some((box) => box.remark)) {
+    history.replaceState(null, "", location.pathname);
+  }
+  if (isBroken) {
+    // (nothing is asked, and no answer that is under way is shown)
+    changes += 1;
+    show("question");
+    showAnswer({ notice: "The link cannot be read: a part is missing, or was changed on its way. Copy the whole link again, or choose an example." });
+    return;
   }
   choose(given?.panel ?? chosen);
 }
