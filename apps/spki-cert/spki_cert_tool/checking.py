@@ -213,13 +213,13 @@ def mistakes_in_key(node: Node) -> Iterator[tuple[int, str]]:
 def invalid_signatures(node: Node) -> Iterator[tuple[int, str]]:
     """Yields the certificates of a sequence or a case whose signatures are not valid: for each the offset in the text, and a remark. A signature by
     a key of a kind that services do not verify is left out if only its value is in doubt."""
+    from spki_verify import public_of as public_of_text
     # (the sequence is the third part of a case, behind the head, the list and the rows)
     sequence = node if node.head == b"sequence" else (node.members or [])[3]
     value = sequence.value
     keys = Keys(keys_in(value))
     for signed in certificates_in(value):
-        key = keys.named(signed.terms.issuer or b"")
         fault = fault_of_signature(signed, keys)
-        if fault and (key is None or public_of(key) is not None or fault != "NotAccepted"):
+        if fault and (fault != "NotAccepted" or public_of_text(keys.text_of(signed.terms.issuer or b"")[0]) is not None):
             # (item 1 of a sequence is its member 1, since its head is member 0)
             yield (sequence.members or [])[signed.number].begin, f"{FAULTS[fault]} ({fault})"
