@@ -457,12 +457,39 @@ class OfCertificates(CommandTest):
         self.assertIn("ENDED", self.cert("show", "--at", "2027-01-01", "c.sexp"))
         shown, = json.loads(self.cert("show", "--json", "--labels", "bob.pub", "c.sexp"))[0]["shows"]
         self.assertEqual((shown["subject"], shown["delegates"], shown["fault"]), ("bob", True, None))
-        self.write("changed.sexp", octets_in(self.at("c.sexp")).replace(b"(propagate)", b""))
-        self.assertIn("DigestDiffers", self.cert("show", "changed.sexp"))
         self.write("c.tsexp", self.cert("show", "--braces", "c.sexp"))
         self.assertEqual(*(value_in(octets_in(self.at(name))).value for name in ("c.sexp", "c.tsexp")))
         self.cert("show", "--svg", "c.svg", "c.sexp")
         self.assertIn(b"(* prefix /web/))", octets_in(self.at("c.svg")))
+
+    def test_show_says_first_what_does_not_count(self):
+        """Of a certificate whose signature is not valid, or not there, `show` says first why it does not count, and never that it is valid now. The
+        status is 1. `hashed` has an issuer that is named by the hash of an unknown key. A sound certificate in the same sequence is shown as ever."""
+        self.sign("--days", "30", "-o", "c.sexp")
+        self.sign("--days", "30", "-o", "by-bob.sexp", by="bob", to="alice.pub")
+        (cert, signature), (_, by_bob) = (value_in(octets_in(self.at(name))).value[1:] for name in ("c.sexp", "by-bob.sexp"))
+        wider = [*cert[:-1], [b"propagate"], cert[-1]]
+        hashed = [b"cert", [b"issuer", keys.hash_of(cert[1][1])], *cert[2:]]
+        for items, fault, sound in (([wider, signature], "DigestDiffers", 0), ([cert, [*signature[:2], *by_bob[2:]]], "SignerDiffers", 0),
+                                    ([wider, [b"signature", keys.hash_of(wider), *signature[2:]]], "NotAccepted", 0),
+                                    ([hashed, [b"signature", keys.hash_of(hashed), *signature[2:]]], "KeyNotShown", 0),
+                                    ([cert], "UnsignedCert", 0), ([cert, signature, wider, signature], "DigestDiffers", 1)):
+            with self.subTest(fault, sound=sound):
+                self.write("x.sexp", sexp.laid_out(cert if fault == "UnsignedCert" else [b"sequence", *items]))
+                output = self.cert("show", "x.sexp", wanted=1)
+                *_, row = json.loads(self.cert("show", "--json", "x.sexp", wanted=1))[0]["shows"]
+                digest = keys.digest_of(items[-2:][0]).hex()
+                self.assertEqual((row["fault"], row["state"], row["digest"]), (fault, "does not count", digest))
+                self.assertRegex(output, rf"\n  (item \d|certificate)  DOES NOT COUNT: .*\({fault}\)\n")
+                self.assertEqual(output.count("valid now"), sound, output)
+
+    def test_show_takes_the_word_of_a_case(self):
+        """In a case its rows say which signatures count, as for the program: also those by made-up keys, and no others."""
+        text = text_of("examples/delegation.sexp")
+        self.write("case", text)
+        self.assertIn("valid now\n      may (*)\n      the signature is accepted by a row of the case", self.cert("show", "case"))
+        self.write("case", re.sub(r"\(accepted .*\n", "(accepted)\n", text))
+        self.assertIn("item 1  DOES NOT COUNT: the signature is not valid (NotAccepted)", self.cert("show", "case", wanted=1))
 
 
 class OfMistakes(CommandTest):

@@ -284,6 +284,7 @@ class OfArguments(TestWithKeys):
         """No command of `mistakes.OF_WORDS` writes the file c.sexp. Each ends with the status and the words of its row."""
         for row in mistakes.OF_WORDS:
             self.write("authorized_keys", b"".join(public + b"\n" for _, public in self.pairs.values()))
+            self.write("altered", octets_in(self.at("to-bob")).replace(b"(packages read)", b"(packages)"))
             self.write("braces", b"{%s}" % base64.b64encode(sexp.canonical(value_in(octets_in(self.at("to-bob"))).value)))
             with self.subTest(row.what):
                 output = self.cert(*row.words, wanted=row.status)

@@ -131,7 +131,7 @@ MANY: dict[str, Any] = {"action": "append", "default": []}
 OPTIONS: dict[str, dict[str, Any]] = {
     "files": {"metavar": "FILE", "nargs": "+"},
     "key files": {"metavar": "FILE", "nargs": "+", "help": "a key"},
-    "end files": {"metavar": "FILE", "nargs": "*", "help": "a sequence, whose last certificate is meant, or a certificate"},
+    "end files": {"metavar": "FILE", "nargs": "*", "help": "a sequence, whose last certificate is meant"},
     "file": {**FILE, "type": one_line, "help": "the private key to make; the public key is FILE.pub"},
     "paths": {"metavar": "PATH", "nargs": "+"},
     "words": {"metavar": "WORD", "nargs": "*", "help": "the strings of the request"},
@@ -215,7 +215,8 @@ written only with --yes, as by `spki-cert sign`.""",
               "entry --to alice.pub --tag '(packages)' --propagate --acl acl.sexp",
               f"{FIELDS} --tag --propagate --try --output|--acl|--store --remove"),
     "show": ("say in words what a list, a certificate, a sequence or a case says", """\
-Shows access lists, certificates, sequences and cases: who, to whom, what, until when, delegated or not, and valid or not.""",
+Shows access lists, certificates, sequences and cases: who, to whom, what, until when, delegated or not, and valid or not.
+Its status is 1 if a signature is not valid or not there.""",
              "show acl.sexp to-bob.sexp", "files --labels --at --json --svg --force --braces"),
     "ask": ("decide a request, and say why", """\
 Decides a request by an access list and certificates, as a service does, and says why or why not. All certificates
@@ -228,7 +229,8 @@ what a service would refuse, with line and column, and what is legal and probabl
               "check certificates/", "paths --json"),
     "end": ("end a certificate before its date", """\
 Ends certificates before their date: puts their digests into the file that `spki-authd` reads as "ended". They count from the next
-reload on. Of a FILE its last certificate is meant, or that of --place. Without FILE and --digest it makes the file if it is not there.
+reload on. Of a FILE its last certificate is meant, or that of --place, and its signature must be valid. Without FILE and --digest it
+makes the file if it is not there.
 
 The file has a last line with the number and the digest of the others, and is refused if it was cut or changed by hand.""",
             "end to-bob.sexp --reason 'laptop stolen' --ended ended", "files --ended --place --digest --reason --undo|--list|--adopt --yes"),

@@ -17,8 +17,8 @@ from dataclasses import dataclass, field, replace
 from functools import cached_property
 from typing import TYPE_CHECKING
 
-from .certificates import (Keys, Signed, Steps, Terms, certificates_in, chains, entries_of, fault_of_signature, first_member, keys_in, members,
-                           sequence_of, string_of)
+from .certificates import (Keys, Signed, Steps, Terms, accepted_by, certificates_in, chains, entries_of, fault_of_signature, first_member, keys_in,
+                           members, sequence_of, string_of)
 from .certificates import field as field_of
 from .files import Refused, now
 from .forms import Parser, suggestion
@@ -70,9 +70,8 @@ class Asked:
 
     @cached_property
     def rows(self) -> set[tuple[bytes, bytes, bytes]]:
-        """The rows of a case, each as the key in canonical form, the SHA-256 digest of the certificate, and the value in canonical form."""
-        parts = [members(row) for row in self.accepted or []]
-        return {(canonical(key), string_of(members(digest)[1]) or b"", canonical(value)) for key, digest, value in parts}
+        """What the rows of a case accept, as `accepted_by` has it."""
+        return accepted_by(self.accepted or [])
 
 
 @dataclass

@@ -221,6 +221,13 @@ def fault_of_signature(signed: Signed, keys: Keys) -> str | None:
     return None if verify_texts(key=keys.text_of(issuer)[0], message=certificate, value=canonical(value)) else "NotAccepted"
 
 
+def accepted_by(rows: Iterable[Value]) -> set[tuple[bytes, bytes, bytes]]:
+    """The signatures that the rows of a case accept: for each the key in canonical form, the SHA-256 digest of the certificate, and the value in
+    canonical form."""
+    parts = [members(row) for row in rows]
+    return {(canonical(key), string_of(members(digest)[1]) or b"", canonical(value)) for key, digest, value in parts}
+
+
 @dataclass
 class Steps:
     """How many steps a search for chains may still take. To put a certificate behind others takes one step, and one for each string of the name to

@@ -220,7 +220,7 @@ def labels_of(given: argparse.Namespace, *paths: str) -> Labels:
 
 def show(given: argparse.Namespace) -> int:
     """Says what access lists, certificates, sequences and cases say: in words or in JSON, and the first one also as a picture; or writes all of them
-    in braces, and nothing else. Returns DONE."""
+    in braces, and nothing else. Returns NO if one has a certificate that does not count, and else DONE."""
     labels, moment = labels_of(given), given.at or now()
     values = [(path, value_headed(path, (b"acl", b"cert", b"sequence", b"case"), NOT_SHOWN)) for path in given.files]
     if given.braces:
@@ -229,13 +229,14 @@ def show(given: argparse.Namespace) -> int:
     if given.svg:
         from .drawing import svg_of
         write((given.svg, svg_of(values[0][1], labels)), force=given.force)
+    shown = [(path, value, [*rows_of(value, moment, labels)]) for path, value in values]
     if given.json:
-        return say(json.dumps([{"file": path, "shows": [*rows_of(value, moment, labels)]} for path, value in values], indent=1))
+        say(json.dumps([{"file": path, "shows": rows} for path, _, rows in shown], indent=1))
     # (no words where the picture goes to standard output)
-    for path, value in values if given.svg != "-" else []:
-        lines = (line for row in rows_of(value, moment, labels) for line in lines_of(row))
-        say(f"{path}: {what_is(value)}", *(f"  {line}" for line in lines))
-    return DONE
+    elif given.svg != "-":
+        for path, value, rows in shown:
+            say(f"{path}: {what_is(value)}", *(f"  {line}" for row in rows for line in lines_of(row)))
+    return NO if any(row.get("fault") for _, _, rows in shown for row in rows) else DONE
 
 
 def ask(given: argparse.Namespace) -> int:

@@ -7,18 +7,20 @@ import os
 from collections import Counter
 from collections.abc import Iterator
 
-from .certificates import Keys, Terms, certificates_in, entries_of, fault_of_signature, headed, keys_in, members, string_of, terms_of
+from .certificates import (Keys, Terms, accepted_by, certificates_in, entries_of, fault_of_signature, headed, keys_in, members, string_of,
+                           terms_of)
 from .files import octets_of
 from .forms import Wrong
 from .keys import OPENSSH, BadKey, digest_of, hash_of, is_private, kind_of, no_passphrase, read_public
-from .sexp import Value, on_one_line
+from .sexp import Value, canonical, on_one_line
 
 # The most letters of a key that is written as it is, and how many hexadecimal digits of its hash stand for a longer one: 64 bits, since a key with
 # the same 32 bits can be made within days.
 SHORT_KEY, SHORT_DIGITS = 40, 16
-# What is said of a signature that is not valid, by the word of `explain`.
+# What is said of a certificate that does not count, by the word of `explain`, or by that of `check` for one without a signature.
 FAULTS = {"KeyNotShown": "the key of its issuer is not here, so the signature is not tested", "DigestDiffers": "its signature has another digest",
-          "SignerDiffers": "signed by another key than its issuer's", "NotAccepted": "the signature is not valid"}
+          "SignerDiffers": "signed by another key than its issuer's", "NotAccepted": "the signature is not valid",
+          "UnsignedCert": "it has no signature"}
 KINDS = {b"cert": "a certificate", b"case": "a case", b"intersect": "a question of two tags", b"accepted": "rows of valid signatures",
          b"signature": "a signature", b"hash": "a hash", b"entry": "an entry"}
 # What is shown of one item, as JSON has it.
@@ -90,50 +92,68 @@ def row_of_terms(kind: str, number: int | None, terms: Terms, moment: bytes, lab
             "window": terms.window, "delegates": terms.delegates, "comment": terms.comment or None, "state": terms.state(moment)}
 
 
+def row_of_signature(cert: Value, fault: str | None, signature: str = "") -> Row:
+    """What the row of a certificate has besides its terms: its digest, how its signature is, and the fault for which it does not count, one of
+    FAULTS."""
+    judged: Row = {"digest": digest_of(cert).hex(), "fault": fault, "signature": None if fault else signature}
+    return {**judged, "state": "does not count"} if fault else judged
+
+
 def rows_of(value: Value, moment: bytes, labels: Labels) -> Iterator[Row]:
     """Yields the rows of a list, a certificate, a sequence or a case: one for each entry, certificate and key, and for a case also its question."""
     if headed(value, b"cert"):
-        yield row_of_terms("certificate", None, terms_of(value), moment, labels)
+        yield {**row_of_terms("certificate", None, terms_of(value), moment, labels), **row_of_signature(value, "UnsignedCert")}
     elif headed(value, b"acl"):
         yield from (row_of_terms("entry", number, entry, moment, labels) for number, entry in enumerate(entries_of(value), 1))
     elif headed(value, b"sequence"):
-        keys = Keys(keys_in(value))
-        certificates = {signed.number: signed for signed in certificates_in(value)}
-        for number, item in enumerate(members(value), 1):
-            if headed(item, b"public-key"):
-                yield {"kind": "key", "number": number, "label": labels.label_of(item), "algorithm": kind_of(item),
-                       "hash": on_one_line(hash_of(item))}
-            elif signed := certificates.get(number):
-                yield {**row_of_terms("certificate", number, signed.terms, moment, labels), "digest": digest_of(signed.terms.value).hex(),
-                       "fault": fault_of_signature(signed, keys)}
+        yield from rows_of_sequence(value, moment, labels, keys_in(value), [])
     else:
         # (a case, whose parts are the list, the rows, the sequence, the key, the request and the moment)
-        parts = members(value)
-        yield from (row for part in (parts[0], parts[2]) for row in rows_of(part, moment, labels))
-        yield {"kind": "question", "key": labels.label_of(members(parts[3])[0]), "request": on_one_line(members(parts[4])[0]),
-               "at": on_one_line(members(parts[5])[0])}
+        access_list, rows, sequence, key, request, at = members(value)[:6]
+        yield from rows_of(access_list, moment, labels)
+        yield from rows_of_sequence(sequence, moment, labels, [*members(key), *keys_in(sequence)], members(rows))
+        yield {"kind": "question", "key": labels.label_of(members(key)[0]), "request": on_one_line(members(request)[0]),
+               "at": on_one_line(members(at)[0])}
+
+
+def rows_of_sequence(sequence: Value, moment: bytes, labels: Labels, keys_shown: list[Value], rows: list[Value]) -> Iterator[Row]:
+    """Yields the rows of a sequence. Hashes may name `keys_shown`. `rows` are those of its case, by which a signature counts that is not valid."""
+    keys, accepted = Keys(keys_shown), accepted_by(rows)
+    certificates = {signed.number: signed for signed in certificates_in(sequence)}
+    for number, item in enumerate(members(sequence), 1):
+        if headed(item, b"public-key"):
+            yield {"kind": "key", "number": number, "label": labels.label_of(item), "algorithm": kind_of(item), "hash": on_one_line(hash_of(item))}
+        elif signed := certificates.get(number):
+            fault = fault_of_signature(signed, keys)
+            row = keys.text_of(signed.terms.issuer or b"")[0], digest_of(item), canonical(members(signed.signature)[2])
+            by_row = fault == "NotAccepted" and row in accepted
+            judged = row_of_signature(item, None if by_row else fault, "accepted by a row of the case" if by_row else "valid")
+            yield {**row_of_terms("certificate", number, signed.terms, moment, labels), **judged}
 
 
 def lines_of(row: Row) -> Iterator[str]:
     """Yields the lines that say a row in words. The row is what `rows_of` yields for an entry, a certificate, a key or a question."""
-    kind, number = row["kind"], row.get("number")
-    front = f"{'entry' if kind == 'entry' else 'item'} {number}" if number else "certificate without a signature"
+    kind, number, fault = row["kind"], row.get("number"), row.get("fault")
+    front = f"{'entry' if kind == 'entry' else 'item'} {number}" if number else "certificate"
     if kind == "key":
         yield f"{front}  key {row['label']}, {row['algorithm']}"
-    elif kind == "question":
+        return
+    if kind == "question":
         yield f"question  {row['key']} requests {row['request']} at {row['at']}"
-    else:
-        window = f"{row['window']}: {row['state']}"
-        if row["name"] is not None:
-            yield f"{front}  {row['issuer']} calls {row['subject']} {on_one_line(str(row['name']).encode(errors='surrogateescape'))}, {window}"
-        else:
-            yield f"{front}  {row['issuer']} -> {row['subject']}, {'may' if row['delegates'] else 'may not'} delegate, {window}"
-            yield f"    may {row['tag']}"
-        if row["comment"]:
-            yield f"    comment: {row['comment']!r}"
-    if "fault" in row:
-        fault = row["fault"]
-        yield f"    {FAULTS[str(fault)]} ({fault})" if fault else "    the signature is valid"
+        return
+    terms = f"{row['issuer']} -> {row['subject']}, {'may' if row['delegates'] else 'may not'} delegate, {row['window']}"
+    if row["name"] is not None:
+        terms = f"{row['issuer']} calls {row['subject']} {on_one_line(str(row['name']).encode(errors='surrogateescape'))}, {row['window']}"
+    if fault:
+        yield f"{front}  DOES NOT COUNT: {FAULTS[str(fault)]} ({fault})"
+    yield f"    {terms}" if fault else f"{front}  {terms}: {row['state']}"
+    if row["tag"] is not None:
+        yield f"    may {row['tag']}"
+    if row["comment"]:
+        yield f"    comment: {row['comment']!r}"
+    if row.get("signature"):
+        yield f"    the signature is {row['signature']}"
+    if "digest" in row:
         yield f"    sha256 {row['digest']}"
 
 
