@@ -749,6 +749,69 @@ class OfAnswers(CommandTest):
         self.assertEqual(len(self.verify("picked.sexp")), 2)
         self.assertNotIn("--sequence", self.cert(*asks, "picked.sexp", *request))
 
+    def test_the_chain_that_nearly_fits_is_explained(self):
+        """Of several chains that do not grant a request, and of several entries, the one is explained whose tags contain the most members of the
+        request, whatever else it lacks. Carol asks for `(packages read /web/x)`."""
+        os.mkdir(self.at("out"))
+        for name in ("alice", "bob", "carol", "dan"):
+            self.make_ssh_key(name)
+        for name, by, to, tag, *more in (("to-bob", "alice", "bob", "(packages)"), ("to-dan", "alice", "dan", "(*)", "--propagate"),
+                                         ("bob-read", "bob", "carol", "(packages read)"), ("bob-mail", "bob", "carol", "(mail)"),
+                                         ("dan-write", "dan", "carol", "(packages write)"), ("dan-y", "dan", "carol", "(packages read /y)"),
+                                         ("dan-any", "dan", "carol", "(* set (mail) (packages read))")):
+            self.cert("sign", "--by", by, "--to", f"{to}.pub", "--tag", tag, *more, "--yes", "--days", "9", "-o", name)
+
+        def entry(name, tag, *more):
+            """An entry for a key, by its name, with fields in `more`."""
+            return f"(entry {self.cert('key', f'{name}.pub').strip()} (tag {tag}) {' '.join(more)})"
+
+        alice = entry("alice", "(packages)", "(propagate)")
+        for entries, files, message in (
+                ([alice], ("to-bob", "bob-read", "to-dan", "dan-write"), "item 3: bob may not delegate the right"),
+                ([alice], ("to-dan", "dan-write", "to-bob", "bob-mail"), "and the tag has `write` (TagLacks)"),
+                ([alice], ("to-dan", "dan-write", "dan-y"), "member 3 of the request is `/web/x`, and the tag has `/y`"),
+                ([alice], ("to-dan", "dan-y", "dan-write"), "member 3 of the request is `/web/x`, and the tag has `/y`"),
+                ([entry("carol", "(mail)"), entry("carol", "(packages)", '(not-after "2020-01-01_00:00:00")')], ("to-dan", "dan-y"),
+                 "entry 2 ended on 2020"),
+                ([entry("dan", "(mail)", "(propagate)"), entry("dan", "(packages)")], ("dan-any",), "item 1: dan may not delegate the right"),
+                ([entry("dan", "(mail)", "(propagate)"), entry("dan", "(packages)")], ("dan-any", "dan-y"), "item 1: dan may not delegate the right"),
+                ([entry("alice", "(mail)", "(propagate)"), entry("alice", "(packages)")], ("to-dan", "dan-any"), "item 1: alice may not delegate")):
+            with self.subTest(message, files=files):
+                self.write("acl.sexp", f"(acl {' '.join(entries)})")
+                output = self.cert("ask", "--acl", "acl.sexp", "--key", "carol.pub", "--labels", ".", "--svg", "out/x.svg", "--force", "--cert",
+                                   *files, "--", "packages", "read", "/web/x", wanted=1)
+                self.assertIn(message, output)
+                word, = re.findall(r"\((\w+)\)$", output, re.MULTILINE)
+                self.assertIn(f"{word}:".encode(), octets_in(self.at("out/x.svg")))
+
+    def test_each_no_names_what_is_damaged(self):
+        """Files of a folder whose certificates cannot be read, are without a signature or have one that is not valid are named under each no, also
+        where another chain is explained, and `check` names them too. Other files, such as a list, keys and a text, are not certificates."""
+        for name in ("alice", "bob", "carol"):
+            self.make_ssh_key(name)
+        self.cert("entry", "--to", "alice.pub", "--tag", "(packages)", "--propagate", "--acl", "acl.sexp")
+        os.mkdir(self.at("certs"))
+        self.cert("sign", "--by", "alice", "--to", "carol.pub", "--tag", "(packages write)", "--days", "9", "-o", "certs/other")
+        self.cert("sign", "--by", "alice", "--to", "carol.pub", "--tag", "(packages read)", "--days", "9", "-o", "whole")
+        whole, alone = octets_in(self.at("whole")), sexp.laid_out(value_in(octets_in(self.at("whole"))).value[1]).encode()
+        for name, octets in (("cut", whole[:-9]), ("c.sexp", b"\xef\xbb\xbf" + whole), ("mail", b"Hello,\n\n" + whole), ("to.carol", whole[:90]),
+                             ("stray", whole.replace(b"(signature", b"(signatur")), ("alone", alone), ("unsigned", b"(sequence %b)" % alone),
+                             ("altered", whole.replace(b"(packages read)", b"(packages)"))):
+            self.write(f"certs/{name}", octets)
+        self.write("certs/empty", "")
+        for name, octets in (("notes.txt", b"(acl"), ("README", b"certificates"), ("bob.pub", octets_in(self.at("bob.pub"))), ("list", b"(acl)")):
+            self.write(f"certs/{name}", octets)
+        named = {"cut": "form Short", "c.sexp": "a byte order mark", "mail": "one begins on line 3", "to.carol": "form Short",
+                 "stray": "UnsignedCert", "unsigned": "UnsignedCert", "altered": "DigestDiffers"}
+        asks = ("ask", "--acl", "acl.sexp", "--key", "carol.pub", "--cert", "certs")
+        output = self.cert(*asks, "--", "packages", "read", wanted=1)
+        self.assertIn("member 2 of the request is `read`, and the tag has `write`", output)
+        for words, more in ((output, {"alone": "UnsignedCert", "empty": "the file is empty"}), (self.cert("check", "certs", wanted=2), {})):
+            lines = {name: line for line in words.splitlines() for name in (*named, *more) if re.search(f"certs/{name}[:,]", line)}
+            self.assertEqual({name: line for name, line in {**named, **more}.items() if line not in lines.get(name, "")}, {}, words)
+            self.assertNotRegex(words, "certs/(other|notes|README|bob|list)")
+        self.assertNotIn("certs/", self.cert(*asks, "--", "packages", "write"))
+
     def test_why_certificates_do_not_join(self):
         """What `ask` says if a certificate defines another name than the entry's subject, has another issuer, or is valid at another time."""
         for name in ("alice", "bob", "carol"):

@@ -224,8 +224,9 @@ that are given are looked through for a chain from the list to the key. The word
             "ask --acl acl.sexp --key bob.pub --cert to-bob.sexp -- packages read /web/index.html",
             "words --labels --at --json --svg --force --acl --key --cert --case --open --save --sequence"),
     "check": ("say what is wrong in files, and what is probably a mistake", """\
-Checks each file that is given, and each file of a folder: S-expressions (.sexp, .csexp, .tsexp, or no suffix) and keys. Prints
-what a service would refuse, with line and column, and what is legal and probably a mistake. Lines with `refused:` are errors.""",
+Checks each file that is given, and each file of a folder: S-expressions (.sexp, .csexp, .tsexp, or no suffix), what begins as a
+certificate, and keys. Prints what a service would refuse, with line and column, and what is legal and probably a mistake. Lines
+with `refused:` are errors.""",
               "check certificates/", "paths --json"),
     "end": ("end a certificate before its date", """\
 Ends certificates before their date: puts their digests into the file that `spki-authd` reads as "ended". They count from the next

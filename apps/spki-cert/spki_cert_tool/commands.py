@@ -12,7 +12,7 @@ import subprocess
 import sys
 import termios
 import warnings
-from collections.abc import Callable, Iterable, Iterator
+from collections.abc import Callable, Iterable
 from typing import NoReturn
 
 from .arguments import NEW_KEY, completion, parser_of_commands
@@ -20,14 +20,13 @@ from .certificates import headed, members, terms_of
 from .ending import end
 from .files import (DONE, FAILED, NO, READ, REFUSED, TERMINAL, UNCONFIRMED, Refused, key_at, locked, now, octets_of, passphrase_for, remark_on_mode,
                     say, signer_at, target_of, tell, text_at, value_headed, value_of, value_of_word, write, write_output)
-from .forms import Wrong
-from .keys import BadKey, file_of, hash_of, kind_of, new_private, openssh_line, principal_of
+from .keys import BadKey, file_of, hash_of, is_key_file, is_private, kind_of, new_private, openssh_line, principal_of
 from .making import (certificate_of, fields_of, list_with, list_without, signed_sequence, text_of, warnings_of, warnings_of_certificate,
                      warnings_of_list)
-from .places import has_private_key, value_in
+from .places import has_private_key, read_text
 from .requesting import request
 from .sexp import Value, canonical, on_one_line
-from .showing import Labels, lines_of, rows_of, what_is
+from .showing import FAULTS, Labels, lines_of, rows_of, what_is
 from .structures import PRINCIPALS, read_subject, read_tag
 
 # The signals that end the program by `end_by_signal`.
@@ -254,8 +253,9 @@ def ask(given: argparse.Namespace) -> int:
         # (a folder of --cert may have public keys too, which give labels; a file of --cert is a sequence, and labels no key)
         labels = labels_of(given, *filter(os.path.isfile, [given.key]), *filter(os.path.isdir, given.cert))
         # (--open asks for the open policy, under which hashes by SHA-1 name keys)
-        asked = Asked(value_of(given.acl, "acl"), key, request_of(given.words), given.at or now(), labels,
-                      [value_of(path, "sequence") for path in sequences_below(given.cert)], is_strict=not given.open)
+        access_list, (paths, sequences, left_out) = value_of(given.acl, "acl"), sequences_at(given.cert)
+        asked = Asked(access_list, key, request_of(given.words), given.at or now(), labels, sequences, is_strict=not given.open, paths=paths,
+                      left_out=left_out)
     answer = best_answer(asked)
     lines = list(Words(asked, answer).lines())
     # (the sequence that grants is neither empty nor one of those that were given, but put together from their certificates)
@@ -273,15 +273,26 @@ def ask(given: argparse.Namespace) -> int:
     return DONE if answer.entry is not None else NO
 
 
-def sequences_below(paths: list[str]) -> Iterator[str]:
-    """Yields the paths of the sequences: each file that is given itself, whatever it has, and the files in given folders that are headed by
-    `sequence`."""
-    from .checking import files_below
+def sequences_at(paths: list[str]) -> tuple[list[str], list[Value], list[str]]:
+    """The paths and the values of sequences: of each file that is given itself, and of those in given folders. And a line on each file of a folder
+    that is perhaps a certificate and is left out, since it has no signature or would be refused. Raises Refused for a given file that is no
+    sequence, and for one that cannot be read."""
+    from .checking import files_below, remarks_on
+    found, left_out = list[tuple[str, Value]](), list[str]()
     for path, is_given in files_below(paths):
-        # (a file that is no S-expression is no sequence)
-        with contextlib.suppress(Wrong):
-            if is_given or value_in(octets_of(path)).head == b"sequence":
-                yield path
+        if is_given:
+            found.append((path, value_of(path, "sequence")))
+            continue
+        octets = octets_of(path)
+        (wrong, _, _), node = read_text(octets)
+        if wrong is None and node.head == b"sequence":
+            found.append((path, node.value))
+        elif wrong is None and node.head == b"cert":
+            left_out.append(f"{path}: {FAULTS['UnsignedCert']} (UnsignedCert)")
+        elif not is_key_file(octets) and not is_private(octets):
+            # (an empty file is looked at as if it were given: a disk was perhaps full)
+            left_out += [str(remark) for remark in remarks_on(path, now(), is_given=not octets.strip())[1] if remark.is_refused][:1]
+    return [path for path, _ in found], [value for _, value in found], left_out
 
 
 def check(given: argparse.Namespace) -> int:

@@ -144,7 +144,7 @@ def digest_at(path: str, place: int | None, is_verified: bool) -> tuple[str, str
 def digests_named(given: argparse.Namespace, is_verified: bool = False) -> tuple[dict[str, str], list[str]]:
     """The digests of all certificates that the command line names, each with what it is called: first those of the FILEs, then those of --digest,
     each in the order given. A certificate that is named twice keeps the first name. With `is_verified` also a line for each FILE whose certificate
-    does not count, unless --digest names it too. Raises Refused for a --digest that is not 64 hexadecimal digits, and for a FILE as `digest_at` does."""
+    does not count, unless --digest names it too. Raises Refused for a --digest without 64 hexadecimal digits, and for a FILE as `digest_at` does."""
     for digest in given.digest:
         if not DIGITS.fullmatch(digest):
             raise Refused(f"--digest {digest}: a digest has 64 hexadecimal digits; `spki-cert show FILE` prints that of a certificate")
