@@ -409,17 +409,51 @@ class OfCertificates(CommandTest):
         self.assertEqual(len(value_in(octets_in(self.at("acl.tsexp"))).value), 3)
 
     def test_entries_are_removed(self):
-        """`entry --remove` removes all entries for a key, or for a name of it, and no others. The word or the entry may have a hash of the key."""
+        """`entry --remove` removes the entries for a key, or for a name of it, and no others: several only with --yes. The word or the entry may have
+        a hash of the key."""
         for words in (("alice.pub",), ("bob.pub",), ("bob.pub", "--named", "team"), ("bob.pub",), ("alice.pub",)):
             self.cert("entry", "--to", *words, "--tag", TAG, "--yes", "--acl", "acl.sexp")
-        output = self.cert("entry", "--remove", "--to", self.cert("key", "--hash", "bob.pub"), "--acl", "acl.sexp")
-        self.assertEqual(output, f"entry 2, {TAG}: removed\nentry 4, {TAG}: removed\nentries removed: 2\n")
+        before, removes = octets_in(self.at("acl.sexp")), ("entry", "--remove", "--acl", "acl.sexp", "--to")
+        removes += (self.cert("key", "--hash", "bob.pub").strip(),)
+        output = self.cert(*removes, wanted=1)
+        self.assertRegex(output, r"^entry 2, .*\nentry 4, .*\nentries removed: 0; \(hash .*\) has 2, and --yes removes all of them\n$")
+        self.assertEqual(octets_in(self.at("acl.sexp")), before)
+        output = self.cert(*removes, "--yes")
+        self.assertTrue(output.endswith(f"entry 2, {TAG}: removed\nentry 4, {TAG}: removed\nentries removed: 2\n"), output)
         self.assertEqual(re.findall(r"-> ([\w ]+)", self.cert("show", "--labels", ".", "acl.sexp")), ["alice", "team of bob", "alice"])
         self.assertIn("entries removed: 0", self.cert("entry", "--remove", "--to", "bob.pub", "--acl", "acl.sexp", wanted=1))
         self.cert("entry", "--remove", "--to", "bob.pub", "--named", "team", "--acl", "acl.sexp")
         self.write("rsa.sexp", sexp.laid_out(key := keys.FileSigner(keys.new_private(keys.RSA)).key))
         self.write("acl.sexp", f"(acl (entry (hash sha512 #{hashlib.sha512(sexp.canonical(key)).hexdigest()}#) (tag a)))")
         self.assertIn("entries removed: 1", self.cert("entry", "--remove", "--to", "rsa.sexp", "--acl", "acl.sexp"))
+
+    def test_what_is_removed_can_be_given_back(self):
+        """Standard output gets the entries that go, as they stood in the list, each behind the other: put in front of its `)` they give the rights
+        back. If it cannot be written, nothing is removed. Where it gets the list itself, the entries go to standard error."""
+        first, second = "(entry {} (propagate)\n\n  (tag  (a |YQ==|)))", '(entry {} (tag b) (comment "of \x62"))'
+        alice, bob = (self.cert("key", f"{name}.pub").strip() for name in ("alice", "bob"))
+        entries = [first.format(bob), f"(entry {alice} (tag c))", second.format(bob)]
+        self.write("acl.sexp", f"(acl {' '.join(entries)})")
+        before, words = octets_in(self.at("acl.sexp")), ["entry", "--remove", "--yes", "--to", "bob.pub", "--acl"]
+
+        def remove(path, output, **more):
+            """Runs the program, whose standard output is a file. Returns its status, and what it writes to standard error."""
+            with open(output, "wb") as stdout:
+                done = subprocess.run([sys.executable, COMMAND, *words, path], cwd=self.room, stdout=stdout, stderr=subprocess.PIPE, text=True,
+                                      **more)
+            return done.returncode, done.stderr
+
+        self.assertEqual(remove("acl.sexp", "/dev/full")[0], 3)
+        self.assertEqual(octets_in(self.at("acl.sexp")), before)
+        for path in ("-", "acl.sexp"):
+            with open(self.at("acl.sexp"), encoding="ascii") as list_in:
+                status, errors = remove(path, self.at("out"), stdin=list_in)
+            left = octets_in(self.at("out" if path == "-" else path))
+            self.assertEqual((status, left), (0, f"(acl {entries[1]})".encode()))
+            gone = errors if path == "-" else octets_in(self.at("out")).decode()
+            self.assertTrue(gone.startswith(f"{entries[0]}\n{entries[2]}\n"), gone)
+        back = value_in(left[:-1] + gone.encode() + b")").value
+        self.assertEqual(sorted(map(sexp.canonical, back[1:])), sorted(map(sexp.canonical, value_in(before).value[1:])))
 
     def test_entries_need_yes_and_are_refused(self):
         """What is probably a mistake ends with status 4, and what a service would refuse with 2. The list stays as it is."""

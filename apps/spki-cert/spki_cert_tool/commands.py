@@ -142,15 +142,23 @@ def add_to_store(text: bytes, settings: str) -> int:
 
 
 def remove(given: argparse.Namespace) -> int:
-    """Removes the entries for the subject of --to from an access list. Returns NO if there are none. The list of a stream is written in any case,
-    since its reader waits for it, and that of a file only if it changes."""
+    """Removes the entries for the subject of --to from an access list. Writes them as they stood, first, so that they can be put into the list again.
+    Returns NO if there are none, or if there are several and no --yes. The list of a stream is written in any case, since its reader waits for it,
+    and that of a file only if it changes."""
+    before, is_stream = list_at(given.acl), given.acl == "-"
     # (the key itself: a hash by one algorithm would not find entries by another)
-    text, removed = list_without(subject_of(given, naming=lambda key: key), list_at(given.acl))
-    if removed or given.acl == "-":
-        write((given.acl, text), edits=True)
-    advice = f"; {given.to} has none; `spki-cert show {given.acl}` lists them" if not removed else ""
-    say(*(f"entry {number}, {tag}: removed" for number, tag in removed), f"entries removed: {len(removed)}{advice}", is_aside=given.acl == "-")
-    return DONE if removed else NO
+    text, removed = list_without(subject_of(given, naming=lambda key: key), before)
+    is_removed = len(removed) == 1 or bool(removed) and given.yes
+    if is_removed:
+        say(*(entry for *_, entry in removed), is_aside=is_stream)
+    if is_removed or is_stream:
+        write((given.acl, text if is_removed else before), edits=True)
+    advice = "" if is_removed else f"; {given.to} has {len(removed)}, and --yes removes all of them"
+    if not removed:
+        advice = f"; {given.to} has none; `spki-cert show {given.acl}` lists them"
+    tell(*(f"entry {number}, {tag}{': removed' if is_removed else ''}" for number, tag, _ in removed),
+         f"entries removed: {len(removed) if is_removed else 0}{advice}")
+    return DONE if is_removed else NO
 
 
 def list_at(path: str) -> bytes:
