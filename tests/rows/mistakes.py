@@ -226,6 +226,8 @@ OF_WORDS = [MistakeInWords(*row) for row in [
     ("a request without --", ("ask", "--acl", "acl.sexp", "--key", "bob.pub", "--cert", "to-bob", "packages"), 2, "the request is missing"),
     ("an entry over a list", ("entry", "--to", "bob.pub", "--tag", TAG, "-o", "acl.sexp"), 2,
      "`spki-cert entry --acl acl.sexp` adds an entry to this list"),
+    ("a list that is forced", ("sign", "--by", "alice", "--to", "bob.pub", "--tag", TAG, "--days", "1", "--force", "-o", "acl.sexp"), 2,
+     "--force replaces only a file of its kind; `spki-cert entry --acl acl.sexp` adds an entry to this list"),
     ("a picture over a certificate", ("show", "--svg", "to-bob", "acl.sexp"), 2, "it has `(sequence ..)`: give another name"),
     ("a picture over a certificate in braces", ("show", "--svg", "braces", "acl.sexp"), 2, "it has `(sequence ..)`: give another name"),
     ("a key as a list", ("ask", "--acl", "bob.pub", "--key", "bob.pub", "--", "x"), 2, "an access list begins as `(acl)`"),

@@ -141,7 +141,7 @@ OPTIONS: dict[str, dict[str, Any]] = {
     "--no-passphrase": {**FLAG, "help": "do not encrypt it"},
     "--json": {**FLAG, "help": "write JSON, for programs"},
     "--output": {**FILE, "help": "where to write it, instead of standard output"},
-    "--force": {**FLAG, "help": "write over a file that is there, unless it is read or holds a key"},
+    "--force": {**FLAG, "help": "write over a file of the same kind that is there, unless it is read or holds a key"},
     "--svg": {**FILE, "help": "draw the chain, or the first file, as a picture"},
     "--labels": {"metavar": "PATH", **MANY, "help": "what keys are called: public keys with comments, as authorized_keys has them, or a folder"},
     "--at": {**DATE, "help": "the moment, as 2026-03-01 or 2026-03-01_12:00:00 in UTC; now if it is not given"},
