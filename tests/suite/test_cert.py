@@ -517,6 +517,31 @@ class OfCertificates(CommandTest):
                 self.assertRegex(output, rf"\n  (item \d|certificate)  DOES NOT COUNT: .*\({fault}\)\n")
                 self.assertEqual(output.count("valid now"), sound, output)
 
+    def test_a_comment_is_not_taken_for_a_name_of_ones_own(self):
+        """A key that is alone in its file is called by the name of that, which the user gave it. The comment is its sender's, and follows in quotes
+        with escapes, unless it is the same. A key of a file of several keys has its comment alone, until a file of its own names it. Two keys of one
+        file name are told apart, whatever their comments say."""
+        lines = {name: b" ".join(octets_in(self.at(f"{name}.pub")).split()[:2]) for name in ("alice", "bob")}
+        for folder in ("own", "sent"):
+            os.mkdir(self.at(folder))
+        self.sign("--days", "9", "-o", "c.sexp")
+        for files, shown in (
+                ({"own/alice.pub": ("alice", "me@laptop"), "own/mallory.pub": ("bob", "me@laptop")}, 'alice "me@laptop" -> mallory "me@laptop",'),
+                ({"own/alice.pub": ("alice", "alice"), "own/mallory.pub": ("bob", 'alice" -> "')}, 'alice -> mallory "alice\\" -> \\"",'),
+                ({"own/alice.pub": ("alice", ""), "own/m.pub": ("bob", "\u202ea\\")}, 'alice -> m "\\u202ea\\\\",'),
+                ({"own/keys": ("alice", "alice", "bob", "carol")}, '"alice" -> "carol",'),
+                ({"own/keys": ("alice", "", "bob", "carol")}, 'keys -> "carol",'),
+                ({"own/keys": ("alice", "bob", "bob", "boss"), "sent/bob.pub": ("bob", "")}, '"bob" -> bob,'),
+                ({"own/keys": ("alice", "bob", "bob", "boss"), "sent/bob.pub": ("bob", "boss")}, '"bob" -> bob "boss",'),
+                ({"own/id.pub": ("alice", "me"), "sent/id.pub": ("bob", "you")}, 'id "me" (key DIGITS) -> id "you" (key DIGITS),')):
+            with self.subTest(shown):
+                for name, words in files.items():
+                    self.write(name, b"".join(b"%b %b\n" % (lines[who], comment.encode()) for who, comment in zip(words[::2], words[1::2])))
+                output = self.cert("show", "--labels", "own", "--labels", "sent", "c.sexp")
+                self.assertEqual(re.sub(r"key [0-9a-f]{16}", "key DIGITS", re.findall(r"item 1  (.*?,) may", output)[0]), shown)
+                for name in files:
+                    os.remove(self.at(name))
+
     def test_show_takes_the_word_of_a_case(self):
         """In a case its rows say which signatures count, as for the program: also those by made-up keys, and no others."""
         text = text_of("examples/delegation.sexp")

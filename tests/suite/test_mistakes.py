@@ -167,7 +167,8 @@ class OfWriting(TestWithKeys):
         for words, kept, lost in (
                 (signs, {"(acl)": "`spki-cert entry --acl x` adds an entry to this list", braces: "adds an entry",
                          "(entry)": "it has `(entry ..)`", "(case": "`(case ..)`", "<svg></svg>": "it is a picture",
-                         "[1]": "it is JSON", "notes": "it is another text", "\0\1": "it is another text", "#!/bin/sh\n(sequence)": "it is another text"},
+                         "[1]": "it is JSON", "notes": "it is another text", "\0\1": "it is another text",
+                         "#!/bin/sh\n(sequence)": "it is another text"},
                  ("(sequence)", "(cert x)", "(sequence (", "", "\n ")),
                 (draws, {"(sequence)": "it has `(sequence ..)`: give another name", "notes": "another text"}, ("<svg></svg>",)),
                 (adds, {"(acl)": "adds an entry to this list", "(sequence)": "`(sequence ..)`"}, ("(entry)",)),

@@ -143,7 +143,7 @@ OPTIONS: dict[str, dict[str, Any]] = {
     "--output": {**FILE, "help": "where to write it, instead of standard output"},
     "--force": {**FLAG, "help": "write over a file of the same kind that is there, unless it is read or holds a key"},
     "--svg": {**FILE, "help": "draw the chain, or the first file, as a picture"},
-    "--labels": {"metavar": "PATH", **MANY, "help": "what keys are called: public keys with comments, as authorized_keys has them, or a folder"},
+    "--labels": {"metavar": "PATH", **MANY, "help": "what keys are called: a folder, by its files, or a file such as authorized_keys, by comments"},
     "--at": {**DATE, "help": "the moment, as 2026-03-01 or 2026-03-01_12:00:00 in UTC; now if it is not given"},
     "--braces": {**FLAG, "help": "write each file on one line in braces instead, as `Authorization: SPKI {..}` has it"},
     "--key": {"metavar": "N", "type": count_of, "dest": "number", "help": "which key of a file of public keys, if it has several"},

@@ -27,46 +27,60 @@ KINDS = {b"cert": "a certificate", b"case": "a case", b"intersect": "a question 
 Row = dict[str, object]
 
 
+def visible(text: str) -> str:
+    """A text whose invisible characters are escaped."""
+    return "".join(letter if letter.isprintable() else ascii(letter)[1:-1] for letter in text)
+
+
 class Labels:
-    """What keys are called: `labels`, by the SHA-256 digests of the keys. `keys` has also those without a label, so that their hashes are known."""
+    """What keys are called: `labels`, by the SHA-256 digests of the keys, each a name that the user has given, or an empty text, and in quotes a
+    comment that the key's sender may have written. `keys` has also those without a label, so that their hashes are known."""
 
     def __init__(self) -> None:
         self.keys = Keys()
-        self.labels: dict[bytes, str] = {}
-        # How many keys have each label.
+        self.labels: dict[bytes, tuple[str, str]] = {}
+        # How many keys have each name, or each comment without a name.
         self.counts = Counter[str]()
 
-    def add(self, key: Value, label: str) -> None:
-        """Adds a key, which gets this label unless it has one already or the label is empty. Invisible characters of the label are escaped."""
+    def add(self, key: Value, name: str, comment: str = "") -> None:
+        """Adds a key with a name and a comment, both of which may be empty. Its first name stays, or else its first comment. Invisible characters are
+        escaped, and in the comment also quotes."""
         self.keys.add(key)
-        if label and digest_of(key) not in self.labels:
-            shown = "".join(letter if letter.isprintable() else ascii(letter)[1:-1] for letter in label)
-            self.labels[digest_of(key)] = shown
-            self.counts[shown] += 1
+        digest = self.keys.text_of(key)[1]
+        before = self.labels.get(digest, ("", ""))
+        if name and not before[0] or comment and not any(before):
+            quoted = '"%s"' % visible(comment.replace("\\", "\\\\").replace('"', '\\"')) if comment else ""
+            self.labels[digest] = visible(name), quoted
+            self.counts.subtract([before[1]])
+            self.counts.update([visible(name) or quoted])
 
     def add_path(self, path: str) -> None:
         """Takes the public keys of a file, or of the files of a folder that are not hidden: lines of OpenSSH with their comments, as authorized_keys
-        has them, or one key. A key without a comment is called by the name of its file without its suffix. What is no public
-        key is left out, and of a file what is behind its first MiB. Raises Refused for a file that cannot be read."""
+        has them, or one key. A key that is alone in its file, or has no comment, has the name of the file without its suffix, and a comment that says
+        the same is left out. What is no public key is left out, and of a file what is behind its first MiB. Raises Refused for a file that cannot be
+        read."""
         files = sorted(filter(os.path.isfile, glob.glob(f"{glob.escape(path)}/*"))) if os.path.isdir(path) else [path]
         for file in files:
             octets = octets_of(file)
             if is_private(octets):
                 continue
-            stem = os.path.splitext(os.path.basename(file))[0]
-            for key, comment in OPENSSH.findall(octets) or [(octets, b"")]:
+            stem, pieces = os.path.splitext(os.path.basename(file))[0], OPENSSH.findall(octets) or [(octets, b"")]
+            for key, octets_of_comment in pieces:
+                comment = octets_of_comment.decode(errors="replace").strip()
+                name = "" if comment and pieces[1:] else stem
                 with contextlib.suppress(BadKey, Wrong):
-                    self.add(read_public(key, no_passphrase), comment.decode(errors="replace").strip() or stem)
+                    self.add(read_public(key, no_passphrase), name, comment if comment != name else "")
 
     def label_of(self, principal: Value | None) -> str:
-        """What a principal is called: its label, else the text of a short key, or digits of the hash of a long one. None is the issuer of entries. A
-        label that several keys have, such as a comment that anyone may write, is followed by these digits."""
+        """What a principal is called: its name and comment, else the text of a short key, or digits of the hash of a long one. None is the issuer of
+        entries. A name that several keys have, or a comment in place of a name, is followed by these digits."""
         if principal is None:
             return "the list"
         is_known, digest = self.keys.named(principal) is not None, self.keys.text_of(principal)[1]
         if is_known and digest in self.labels:
-            label = self.labels[digest]
-            return label if self.counts[label] == 1 else f"{label} (key {digest.hex()[:SHORT_DIGITS]})"
+            name, comment = self.labels[digest]
+            label = f"{name} {comment}".strip()
+            return label if self.counts[name or comment] == 1 else f"{label} (key {digest.hex()[:SHORT_DIGITS]})"
         text = on_one_line(principal)
         if headed(principal, b"public-key") and len(text) <= SHORT_KEY:
             return text
