@@ -542,6 +542,28 @@ class OfCertificates(CommandTest):
                 for name in files:
                     os.remove(self.at(name))
 
+    def test_who_decides_who_has_a_right_is_said(self):
+        """A right for a name of another key is for whom that key's holder says. `sign`, `name`, `entry` and `show` say who that is, also by a
+        fingerprint. Of a name of the issuer, with or without its key as --to, nothing is said."""
+        bob = self.cert("key", "bob.pub").strip()
+        team, builders = ("--named", "team"), ("--named", "my builders")
+        says = "bob decides who is team of bob"
+        for words, said in ((("sign", "--to", "bob.pub", *team), f"{says}, and so who has this right; without --to it is a name of yours"),
+                            (("sign", "--to", bob, *team), " decides who is team of key "),
+                            (("sign", "--to", "alice.pub", *team), None), (("sign", *team), None), (("sign", "--to", "bob.pub"), None),
+                            (("name", "--name", "x", "--to", "bob.pub", *builders), 'bob decides who is "my builders" of bob, and so whom this name'),
+                            (("entry", "--to", "bob.pub", *team), f"{says}, and so who has this right\n"), (("entry", "--to", "bob.pub"), None)):
+            with self.subTest(words):
+                by, tag = ("--by", "alice") if words[0] != "entry" else (), ("--tag", TAG) if words[0] != "name" else ()
+                output = self.cert(*words, *by, *tag, "--days", "9", *into("x.sexp" if by else "e.sexp"))
+                self.assertEqual((said or "decides") in output, said is not None, output)
+                if words[0] == "entry":
+                    self.write("x.sexp", b"(acl %b)" % octets_in(self.at("e.sexp")))
+                shown = self.cert("show", "--labels", "bob.pub", "x.sexp")
+                self.assertEqual(bool(re.search("\n +bob decides who is .* of bob\n", shown)), said is not None, shown)
+                row, = json.loads(self.cert("show", "--json", "--labels", "bob.pub", "x.sexp"))[0]["shows"]
+                self.assertEqual(row["decides"], "bob" if said else None)
+
     def test_show_takes_the_word_of_a_case(self):
         """In a case its rows say which signatures count, as for the program: also those by made-up keys, and no others."""
         text = text_of("examples/delegation.sexp")

@@ -149,7 +149,7 @@ OPTIONS: dict[str, dict[str, Any]] = {
     "--key": {"metavar": "N", "type": count_of, "dest": "number", "help": "which key of a file of public keys, if it has several"},
     "--by": {"metavar": "KEY", "required": True, "type": not_empty, "help": "who signs: a private key, or a public key that ssh-agent holds"},
     "--to": {"metavar": "KEY", "type": not_empty, "help": "the subject: a file with its key, or an S-expression as '(hash sha256 #..#)'"},
-    "--named": {"metavar": "NAME", **MANY, "type": one_line, "help": "a name of --to, instead of the key itself, or without --to of the issuer"},
+    "--named": {"metavar": "NAME", **MANY, "type": one_line, "help": "a name of --to, whose holder says who that is, or without --to of the issuer"},
     "--name": {"metavar": "NAME", "required": True, "type": one_line, "help": "the name that the issuer gives to the subject"},
     "--tag": {"metavar": "TAG", "type": not_empty, "help": "the requests that are allowed, as '(packages read (* prefix /web/))'"},
     "--propagate": {**FLAG, "help": "the subject may delegate the right"},

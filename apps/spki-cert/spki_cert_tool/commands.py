@@ -12,11 +12,11 @@ import subprocess
 import sys
 import termios
 import warnings
-from collections.abc import Callable, Iterable
+from collections.abc import Callable, Iterable, Iterator
 from typing import NoReturn
 
 from .arguments import NEW_KEY, completion, parser_of_commands
-from .certificates import headed, members, terms_of
+from .certificates import Terms, headed, members, terms_of
 from .ending import end
 from .files import (DONE, FAILED, NO, READ, REFUSED, TERMINAL, UNCONFIRMED, Refused, key_at, locked, now, octets_of, passphrase_for, remark_on_mode,
                     say, signer_at, target_of, tell, text_at, value_headed, value_of, value_of_word, write, write_output)
@@ -92,6 +92,7 @@ def sign(given: argparse.Namespace) -> int:
     # (a list, so that both are called, and all warnings are told)
     if not all([confirm(given.anyway, "--anyway", lacking), confirm(given.yes, "--yes", warnings)]):
         return UNCONFIRMED
+    tell(*remark_on_name(given, terms))
     write((given.output, text_of(signed_sequence(certificate, signer, chain))), force=given.force)
     return DONE
 
@@ -116,9 +117,11 @@ def add(given: argparse.Namespace) -> int:
     before = list_at(given.acl) if is_there else b"(acl)"
     # (also without --acl: it raises Refused for an entry that a service would refuse)
     text = list_with(new_entry, before)
-    warnings = [*warnings_of(terms_of(new_entry), given.tag, [*map(request_of, given.tries)]), *warnings_of_list(new_entry, before)]
+    terms = terms_of(new_entry)
+    warnings = [*warnings_of(terms, given.tag, [*map(request_of, given.tries)]), *warnings_of_list(new_entry, before)]
     if not confirm(given.yes, "--yes", warnings):
         return UNCONFIRMED
+    tell(*remark_on_name(given, terms))
     if given.store is not None:
         return add_to_store(text_of(new_entry), given.store)
     if not given.acl:
@@ -176,6 +179,17 @@ def confirm(is_given: bool, option: str, warnings: Iterable[str]) -> bool:
     is_made = is_given or not lines
     tell(*(f"spki-cert: {line}" for line in lines), *([] if is_made else [f"spki-cert: nothing was written; {option} makes it as it is"]))
     return is_made
+
+
+def remark_on_name(given: argparse.Namespace, terms: Terms) -> Iterator[str]:
+    """Yields a line that says who decides who the subject of a new certificate or entry is, if that is a name of another key than the issuer's."""
+    labels = Labels()
+    if os.path.isfile(given.to or ""):
+        labels.add_path(given.to)
+    if decider := labels.decider_of(terms):
+        what = "who has this right" if terms.name is None else "whom this name means"
+        advice = "; without --to it is a name of yours" if given.command != "entry" else ""
+        yield f"spki-cert: {decider} decides who is {labels.label_of_subject(terms.subject)}, and so {what}{advice}"
 
 
 def fields_given(given: argparse.Namespace) -> list[Value]:

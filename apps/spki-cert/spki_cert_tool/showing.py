@@ -95,13 +95,19 @@ class Labels:
         names = " ".join(on_one_line(name) for name in members(subject)[1:])
         return f"{names} of {self.label_of(members(subject)[0])}"
 
+    def decider_of(self, terms: Terms) -> str | None:
+        """What the key is called whose holder decides who the subject of a certificate or an entry is, if that is a name of another key than the
+        issuer's. Otherwise None."""
+        return self.label_of(terms.principal) if terms.names and not self.keys.are_one(terms.issuer, terms.principal) else None
+
 
 def row_of_terms(kind: str, number: int | None, terms: Terms, moment: bytes, labels: Labels) -> Row:
     """What an entry or a certificate says, as a row: a dictionary, for JSON and for `lines_of`. `kind` is `entry` or `certificate`, and `number` is
     that of the entry or item, or None for a certificate that is alone. The row says whether it is valid at `moment`."""
     return {"kind": kind, "number": number, "issuer": labels.label_of(terms.issuer),
             "name": terms.name.decode(errors="surrogateescape") if terms.name is not None else None,
-            "subject": labels.label_of_subject(terms.subject), "tag": on_one_line(terms.tag) if terms.tag is not None else None,
+            "subject": labels.label_of_subject(terms.subject), "decides": labels.decider_of(terms),
+            "tag": on_one_line(terms.tag) if terms.tag is not None else None,
             "from": terms.begins.decode() if terms.begins else None, "until": terms.ends.decode() if terms.ends else None,
             "window": terms.window, "delegates": terms.delegates, "comment": terms.comment or None, "state": terms.state(moment)}
 
@@ -163,6 +169,8 @@ def lines_of(row: Row) -> Iterator[str]:
     yield f"    {terms}" if fault else f"{front}  {terms}: {row['state']}"
     if row["tag"] is not None:
         yield f"    may {row['tag']}"
+    if row["decides"]:
+        yield f"    {row['decides']} decides who is {row['subject']}"
     if row["comment"]:
         yield f"    comment: {row['comment']!r}"
     if row.get("signature"):
