@@ -892,6 +892,8 @@ class OfAnswers(CommandTest):
             self.assertEqual({name: line for name, line in {**named, **more}.items() if line not in lines.get(name, "")}, {}, words)
             self.assertNotRegex(words, "certs/(other|notes|README|bob|list)")
         self.assertNotIn("certs/", self.cert(*asks, "--", "packages", "write"))
+        self.write("acl.sexp", "(acl)")
+        self.assertIn("left out: certs/cut", self.cert(*asks, "--", "packages", "write", wanted=1))
 
     def test_why_certificates_do_not_join(self):
         """What `ask` says if a certificate defines another name than the entry's subject, has another issuer, or is valid at another time."""

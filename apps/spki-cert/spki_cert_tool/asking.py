@@ -264,13 +264,10 @@ class Words:
         chosen = self.answer.chosen
         wants = f"{self.asker} requests {on_one_line(self.asked.request)} at {self.asked.moment.decode()}"
         yield f"{'yes' if self.answer.entry is not None else 'no'}: {wants}"
-        if chosen is None:
-            yield "the access list has no entries"
-            return
         # (a signature that is not valid stops the chains of all entries, so its reason has no entry)
-        if chosen.entry is not None:
+        if chosen is not None and chosen.entry is not None:
             yield from (f"  {name}: {self.statement_of(terms)}" for name, terms in self.links_of(chosen, with_stop=True))
-        yield from self.lines_of_cause(chosen)
+        yield from self.lines_of_cause(chosen) if chosen is not None else ["the access list has no entries"]
         if self.answer.unused:
             leads = "no chain was found that leads" if self.answer.is_cut else "no chain leads"
             yield f"  of the {self.answer.unused} certificates at hand, {leads} from an entry to {self.asker}"
