@@ -1,7 +1,7 @@
 #!/usr/bin/env python3
 """Draws the delegation chain of a case, as text for Graphviz's `dot`: a certificate is an arrow, and what stops the chain is red.
 
-The chain is that of the entry that grants the request, else of the entry whose chain goes furthest. `spki explain` says what stops it,
+The chain is that of the entry that grants the request, else of the entry that comes nearest to that. `spki explain` says what stops it,
 `spki reduce` what right is left at its end, and `spki canonical` reads the case. Other entries are left out. `spki-cert show --svg`
 draws the same as SVG.
 

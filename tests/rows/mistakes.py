@@ -133,7 +133,8 @@ MISTAKES = [
     ("a key in a key", "key.sexp", "(public-key (public-key (ecc)))\n", (1, 13), False, "replace the whole outer `(public-key ..)` by the inner one")]
 
 # Words of a command that are a mistake: what is wrong, the words, the exit status, and words of what is said. `NAME` begins a sentence on a
-# file. In the folder are keys of alice, bob and carol, `acl.sexp` with an entry for alice, and `to-bob`, a certificate of alice for bob.
+# file. In the folder are keys of alice, bob and carol, `acl.sexp` with an entry for alice, `to-bob`, a certificate of alice for bob, and `altered`, a
+# copy of that with another tag.
 MistakeInWords = collections.namedtuple("MistakeInWords", "what words status said")
 SIGNS = ("sign", "--by", "alice", "-o", "c.sexp", "--to")
 BOB = (*SIGNS, "bob.pub", "--tag", "(packages read)")
@@ -225,6 +226,8 @@ OF_WORDS = [MistakeInWords(*row) for row in [
     ("a request without --", ("ask", "--acl", "acl.sexp", "--key", "bob.pub", "--cert", "to-bob", "packages"), 2, "the request is missing"),
     ("an entry over a list", ("entry", "--to", "bob.pub", "--tag", TAG, "-o", "acl.sexp"), 2,
      "`spki-cert entry --acl acl.sexp` adds an entry to this list"),
+    ("a list that is forced", ("sign", "--by", "alice", "--to", "bob.pub", "--tag", TAG, "--days", "1", "--force", "-o", "acl.sexp"), 2,
+     "--force replaces only a file of its kind; `spki-cert entry --acl acl.sexp` adds an entry to this list"),
     ("a picture over a certificate", ("show", "--svg", "to-bob", "acl.sexp"), 2, "it has `(sequence ..)`: give another name"),
     ("a picture over a certificate in braces", ("show", "--svg", "braces", "acl.sexp"), 2, "it has `(sequence ..)`: give another name"),
     ("a key as a list", ("ask", "--acl", "bob.pub", "--key", "bob.pub", "--", "x"), 2, "an access list begins as `(acl)`"),
@@ -236,7 +239,9 @@ OF_WORDS = [MistakeInWords(*row) for row in [
     ("a moment without its day", ("show", "--at", "12:00", "to-bob"), 2, "write YYYY-MM-DD"),
     ("a digest that is cut off", ("end", "--digest", DIGITS[:-2], "--ended", "ended"), 2, "64 hexadecimal digits; `spki-cert show FILE` prints"),
     ("a reason for nothing", ("end", "--reason", "x", "--ended", "ended"), 2, "--reason goes with a FILE or --digest"),
-    ("a list that is ended", ("end", "acl.sexp", "--ended", "ended"), 2, "only a certificate of a sequence, or one that is alone, is ended"),
+    ("a list that is ended", ("end", "acl.sexp", "--ended", "ended"), 2, "only a certificate of a sequence is ended"),
+    ("an altered certificate that is ended", ("end", "altered", "--ended", "ended"), 1, "not ended: its signature has another digest"),
+    ("an altered certificate that is shown", ("show", "altered"), 1, "item 1  DOES NOT COUNT: its signature has another digest"),
     ("a certificate that a file has not", ("end", "--place", "2", "to-bob", "--ended", "ended"), 2, "there is no certificate 2; it has 1"),
     ("no file of ended certificates", ("end", "to-bob", "--ended", "ended"), 2, "`spki-cert end --ended ended` makes it"),
     ("another file for ended certificates", ("end", "to-bob", "--ended", "acl.sexp"), 2, "`spki-cert end --adopt --ended acl.sexp` takes"),

@@ -409,17 +409,51 @@ class OfCertificates(CommandTest):
         self.assertEqual(len(value_in(octets_in(self.at("acl.tsexp"))).value), 3)
 
     def test_entries_are_removed(self):
-        """`entry --remove` removes all entries for a key, or for a name of it, and no others. The word or the entry may have a hash of the key."""
+        """`entry --remove` removes the entries for a key, or for a name of it, and no others: several only with --yes. The word or the entry may have
+        a hash of the key."""
         for words in (("alice.pub",), ("bob.pub",), ("bob.pub", "--named", "team"), ("bob.pub",), ("alice.pub",)):
             self.cert("entry", "--to", *words, "--tag", TAG, "--yes", "--acl", "acl.sexp")
-        output = self.cert("entry", "--remove", "--to", self.cert("key", "--hash", "bob.pub"), "--acl", "acl.sexp")
-        self.assertEqual(output, f"entry 2, {TAG}: removed\nentry 4, {TAG}: removed\nentries removed: 2\n")
+        before, removes = octets_in(self.at("acl.sexp")), ("entry", "--remove", "--acl", "acl.sexp", "--to")
+        removes += (self.cert("key", "--hash", "bob.pub").strip(),)
+        output = self.cert(*removes, wanted=1)
+        self.assertRegex(output, r"^entry 2, .*\nentry 4, .*\nentries removed: 0; \(hash .*\) has 2, and --yes removes all of them\n$")
+        self.assertEqual(octets_in(self.at("acl.sexp")), before)
+        output = self.cert(*removes, "--yes")
+        self.assertTrue(output.endswith(f"entry 2, {TAG}: removed\nentry 4, {TAG}: removed\nentries removed: 2\n"), output)
         self.assertEqual(re.findall(r"-> ([\w ]+)", self.cert("show", "--labels", ".", "acl.sexp")), ["alice", "team of bob", "alice"])
         self.assertIn("entries removed: 0", self.cert("entry", "--remove", "--to", "bob.pub", "--acl", "acl.sexp", wanted=1))
         self.cert("entry", "--remove", "--to", "bob.pub", "--named", "team", "--acl", "acl.sexp")
         self.write("rsa.sexp", sexp.laid_out(key := keys.FileSigner(keys.new_private(keys.RSA)).key))
         self.write("acl.sexp", f"(acl (entry (hash sha512 #{hashlib.sha512(sexp.canonical(key)).hexdigest()}#) (tag a)))")
         self.assertIn("entries removed: 1", self.cert("entry", "--remove", "--to", "rsa.sexp", "--acl", "acl.sexp"))
+
+    def test_what_is_removed_can_be_given_back(self):
+        """Standard output gets the entries that go, as they stood in the list, each behind the other: put in front of its `)` they give the rights
+        back. If it cannot be written, nothing is removed. Where it gets the list itself, the entries go to standard error."""
+        first, second = "(entry {} (propagate)\n\n  (tag  (a |YQ==|)))", '(entry {} (tag b) (comment "of \x62"))'
+        alice, bob = (self.cert("key", f"{name}.pub").strip() for name in ("alice", "bob"))
+        entries = [first.format(bob), f"(entry {alice} (tag c))", second.format(bob)]
+        self.write("acl.sexp", f"(acl {' '.join(entries)})")
+        before, words = octets_in(self.at("acl.sexp")), ["entry", "--remove", "--yes", "--to", "bob.pub", "--acl"]
+
+        def remove(path, output, **more):
+            """Runs the program, whose standard output is a file. Returns its status, and what it writes to standard error."""
+            with open(output, "wb") as stdout:
+                done = subprocess.run([sys.executable, COMMAND, *words, path], cwd=self.room, stdout=stdout, stderr=subprocess.PIPE, text=True,
+                                      **more)
+            return done.returncode, done.stderr
+
+        self.assertEqual(remove("acl.sexp", "/dev/full")[0], 3)
+        self.assertEqual(octets_in(self.at("acl.sexp")), before)
+        for path in ("-", "acl.sexp"):
+            with open(self.at("acl.sexp"), encoding="ascii") as list_in:
+                status, errors = remove(path, self.at("out"), stdin=list_in)
+            left = octets_in(self.at("out" if path == "-" else path))
+            self.assertEqual((status, left), (0, f"(acl {entries[1]})".encode()))
+            gone = errors if path == "-" else octets_in(self.at("out")).decode()
+            self.assertTrue(gone.startswith(f"{entries[0]}\n{entries[2]}\n"), gone)
+        back = value_in(left[:-1] + gone.encode() + b")").value
+        self.assertEqual(sorted(map(sexp.canonical, back[1:])), sorted(map(sexp.canonical, value_in(before).value[1:])))
 
     def test_entries_need_yes_and_are_refused(self):
         """What is probably a mistake ends with status 4, and what a service would refuse with 2. The list stays as it is."""
@@ -457,12 +491,86 @@ class OfCertificates(CommandTest):
         self.assertIn("ENDED", self.cert("show", "--at", "2027-01-01", "c.sexp"))
         shown, = json.loads(self.cert("show", "--json", "--labels", "bob.pub", "c.sexp"))[0]["shows"]
         self.assertEqual((shown["subject"], shown["delegates"], shown["fault"]), ("bob", True, None))
-        self.write("changed.sexp", octets_in(self.at("c.sexp")).replace(b"(propagate)", b""))
-        self.assertIn("DigestDiffers", self.cert("show", "changed.sexp"))
         self.write("c.tsexp", self.cert("show", "--braces", "c.sexp"))
         self.assertEqual(*(value_in(octets_in(self.at(name))).value for name in ("c.sexp", "c.tsexp")))
         self.cert("show", "--svg", "c.svg", "c.sexp")
         self.assertIn(b"(* prefix /web/))", octets_in(self.at("c.svg")))
+
+    def test_show_says_first_what_does_not_count(self):
+        """Of a certificate whose signature is not valid, or not there, `show` says first why it does not count, and never that it is valid now. The
+        status is 1. `hashed` has an issuer that is named by the hash of an unknown key. A sound certificate in the same sequence is shown as ever."""
+        self.sign("--days", "30", "-o", "c.sexp")
+        self.sign("--days", "30", "-o", "by-bob.sexp", by="bob", to="alice.pub")
+        (cert, signature), (_, by_bob) = (value_in(octets_in(self.at(name))).value[1:] for name in ("c.sexp", "by-bob.sexp"))
+        wider = [*cert[:-1], [b"propagate"], cert[-1]]
+        hashed = [b"cert", [b"issuer", keys.hash_of(cert[1][1])], *cert[2:]]
+        for items, fault, sound in (([wider, signature], "DigestDiffers", 0), ([cert, [*signature[:2], *by_bob[2:]]], "SignerDiffers", 0),
+                                    ([wider, [b"signature", keys.hash_of(wider), *signature[2:]]], "NotAccepted", 0),
+                                    ([hashed, [b"signature", keys.hash_of(hashed), *signature[2:]]], "KeyNotShown", 0),
+                                    ([cert], "UnsignedCert", 0), ([cert, signature, wider, signature], "DigestDiffers", 1)):
+            with self.subTest(fault, sound=sound):
+                self.write("x.sexp", sexp.laid_out(cert if fault == "UnsignedCert" else [b"sequence", *items]))
+                output = self.cert("show", "x.sexp", wanted=1)
+                *_, row = json.loads(self.cert("show", "--json", "x.sexp", wanted=1))[0]["shows"]
+                digest = keys.digest_of(items[-2:][0]).hex()
+                self.assertEqual((row["fault"], row["state"], row["digest"]), (fault, "does not count", digest))
+                self.assertRegex(output, rf"\n  (item \d|certificate)  DOES NOT COUNT: .*\({fault}\)\n")
+                self.assertEqual(output.count("valid now"), sound, output)
+
+    def test_a_comment_is_not_taken_for_a_name_of_ones_own(self):
+        """A key that is alone in its file is called by the name of that, which the user gave it. The comment is its sender's, and follows in quotes
+        with escapes, unless it is the same. A key of a file of several keys has its comment alone, until a file of its own names it. Two keys of one
+        file name are told apart, whatever their comments say."""
+        lines = {name: b" ".join(octets_in(self.at(f"{name}.pub")).split()[:2]) for name in ("alice", "bob")}
+        for folder in ("own", "sent"):
+            os.mkdir(self.at(folder))
+        self.sign("--days", "9", "-o", "c.sexp")
+        for files, shown in (
+                ({"own/alice.pub": ("alice", "me@laptop"), "own/mallory.pub": ("bob", "me@laptop")}, 'alice "me@laptop" -> mallory "me@laptop",'),
+                ({"own/alice.pub": ("alice", "alice"), "own/mallory.pub": ("bob", 'alice" -> "')}, 'alice -> mallory "alice\\" -> \\"",'),
+                ({"own/alice.pub": ("alice", ""), "own/m.pub": ("bob", "\u202ea\\")}, 'alice -> m "\\u202ea\\\\",'),
+                ({"own/keys": ("alice", "alice", "bob", "carol")}, '"alice" -> "carol",'),
+                ({"own/keys": ("alice", "", "bob", "carol")}, 'keys -> "carol",'),
+                ({"own/keys": ("alice", "bob", "bob", "boss"), "sent/bob.pub": ("bob", "")}, '"bob" -> bob,'),
+                ({"own/keys": ("alice", "bob", "bob", "boss"), "sent/bob.pub": ("bob", "boss")}, '"bob" -> bob "boss",'),
+                ({"own/id.pub": ("alice", "me"), "sent/id.pub": ("bob", "you")}, 'id "me" (key DIGITS) -> id "you" (key DIGITS),')):
+            with self.subTest(shown):
+                for name, words in files.items():
+                    self.write(name, b"".join(b"%b %b\n" % (lines[who], comment.encode()) for who, comment in zip(words[::2], words[1::2])))
+                output = self.cert("show", "--labels", "own", "--labels", "sent", "c.sexp")
+                self.assertEqual(re.sub(r"key [0-9a-f]{16}", "key DIGITS", re.findall(r"item 1  (.*?,) may", output)[0]), shown)
+                for name in files:
+                    os.remove(self.at(name))
+
+    def test_who_decides_who_has_a_right_is_said(self):
+        """A right for a name of another key is for whom that key's holder says. `sign`, `name`, `entry` and `show` say who that is, also by a
+        fingerprint. Of a name of the issuer, with or without its key as --to, nothing is said."""
+        bob = self.cert("key", "bob.pub").strip()
+        team, builders = ("--named", "team"), ("--named", "my builders")
+        says = "bob decides who is team of bob"
+        for words, said in ((("sign", "--to", "bob.pub", *team), f"{says}, and so who has this right; without --to it is a name of yours"),
+                            (("sign", "--to", bob, *team), " decides who is team of key "),
+                            (("sign", "--to", "alice.pub", *team), None), (("sign", *team), None), (("sign", "--to", "bob.pub"), None),
+                            (("name", "--name", "x", "--to", "bob.pub", *builders), 'bob decides who is "my builders" of bob, and so whom this name'),
+                            (("entry", "--to", "bob.pub", *team), f"{says}, and so who has this right\n"), (("entry", "--to", "bob.pub"), None)):
+            with self.subTest(words):
+                by, tag = ("--by", "alice") if words[0] != "entry" else (), ("--tag", TAG) if words[0] != "name" else ()
+                output = self.cert(*words, *by, *tag, "--days", "9", *into("x.sexp" if by else "e.sexp"))
+                self.assertEqual((said or "decides") in output, said is not None, output)
+                if words[0] == "entry":
+                    self.write("x.sexp", b"(acl %b)" % octets_in(self.at("e.sexp")))
+                shown = self.cert("show", "--labels", "bob.pub", "x.sexp")
+                self.assertEqual(bool(re.search("\n +bob decides who is .* of bob\n", shown)), said is not None, shown)
+                row, = json.loads(self.cert("show", "--json", "--labels", "bob.pub", "x.sexp"))[0]["shows"]
+                self.assertEqual(row["decides"], "bob" if said else None)
+
+    def test_show_takes_the_word_of_a_case(self):
+        """In a case its rows say which signatures count, as for the program: also those by made-up keys, and no others."""
+        text = text_of("examples/delegation.sexp")
+        self.write("case", text)
+        self.assertIn("valid now\n      may (*)\n      the signature is accepted by a row of the case", self.cert("show", "case"))
+        self.write("case", re.sub(r"\(accepted .*\n", "(accepted)\n", text))
+        self.assertIn("item 1  DOES NOT COUNT: the signature is not valid (NotAccepted)", self.cert("show", "case", wanted=1))
 
 
 class OfMistakes(CommandTest):
@@ -721,6 +829,71 @@ class OfAnswers(CommandTest):
         self.cert(*asks, "second.sexp", "other.sexp", "first.sexp", "--sequence", "picked.sexp", *request)
         self.assertEqual(len(self.verify("picked.sexp")), 2)
         self.assertNotIn("--sequence", self.cert(*asks, "picked.sexp", *request))
+
+    def test_the_chain_that_nearly_fits_is_explained(self):
+        """Of several chains that do not grant a request, and of several entries, the one is explained whose tags contain the most members of the
+        request, whatever else it lacks. Carol asks for `(packages read /web/x)`."""
+        os.mkdir(self.at("out"))
+        for name in ("alice", "bob", "carol", "dan"):
+            self.make_ssh_key(name)
+        for name, by, to, tag, *more in (("to-bob", "alice", "bob", "(packages)"), ("to-dan", "alice", "dan", "(*)", "--propagate"),
+                                         ("bob-read", "bob", "carol", "(packages read)"), ("bob-mail", "bob", "carol", "(mail)"),
+                                         ("dan-write", "dan", "carol", "(packages write)"), ("dan-y", "dan", "carol", "(packages read /y)"),
+                                         ("dan-any", "dan", "carol", "(* set (mail) (packages read))")):
+            self.cert("sign", "--by", by, "--to", f"{to}.pub", "--tag", tag, *more, "--yes", "--days", "9", "-o", name)
+
+        def entry(name, tag, *more):
+            """An entry for a key, by its name, with fields in `more`."""
+            return f"(entry {self.cert('key', f'{name}.pub').strip()} (tag {tag}) {' '.join(more)})"
+
+        alice = entry("alice", "(packages)", "(propagate)")
+        for entries, files, message in (
+                ([alice], ("to-bob", "bob-read", "to-dan", "dan-write"), "item 3: bob may not delegate the right"),
+                ([alice], ("to-dan", "dan-write", "to-bob", "bob-mail"), "and the tag has `write` (TagLacks)"),
+                ([alice], ("to-dan", "dan-write", "dan-y"), "member 3 of the request is `/web/x`, and the tag has `/y`"),
+                ([alice], ("to-dan", "dan-y", "dan-write"), "member 3 of the request is `/web/x`, and the tag has `/y`"),
+                ([entry("carol", "(mail)"), entry("carol", "(packages)", '(not-after "2020-01-01_00:00:00")')], ("to-dan", "dan-y"),
+                 "entry 2 ended on 2020"),
+                ([entry("dan", "(mail)", "(propagate)"), entry("dan", "(packages)")], ("dan-any",), "item 1: dan may not delegate the right"),
+                ([entry("dan", "(mail)", "(propagate)"), entry("dan", "(packages)")], ("dan-any", "dan-y"), "item 1: dan may not delegate the right"),
+                ([entry("alice", "(mail)", "(propagate)"), entry("alice", "(packages)")], ("to-dan", "dan-any"), "item 1: alice may not delegate")):
+            with self.subTest(message, files=files):
+                self.write("acl.sexp", f"(acl {' '.join(entries)})")
+                output = self.cert("ask", "--acl", "acl.sexp", "--key", "carol.pub", "--labels", ".", "--svg", "out/x.svg", "--force", "--cert",
+                                   *files, "--", "packages", "read", "/web/x", wanted=1)
+                self.assertIn(message, output)
+                word, = re.findall(r"\((\w+)\)$", output, re.MULTILINE)
+                self.assertIn(f"{word}:".encode(), octets_in(self.at("out/x.svg")))
+
+    def test_each_no_names_what_is_damaged(self):
+        """Files of a folder whose certificates cannot be read, are without a signature or have one that is not valid are named under each no, also
+        where another chain is explained, and `check` names them too. Other files, such as a list, keys and a text, are not certificates."""
+        for name in ("alice", "bob", "carol"):
+            self.make_ssh_key(name)
+        self.cert("entry", "--to", "alice.pub", "--tag", "(packages)", "--propagate", "--acl", "acl.sexp")
+        os.mkdir(self.at("certs"))
+        self.cert("sign", "--by", "alice", "--to", "carol.pub", "--tag", "(packages write)", "--days", "9", "-o", "certs/other")
+        self.cert("sign", "--by", "alice", "--to", "carol.pub", "--tag", "(packages read)", "--days", "9", "-o", "whole")
+        whole, alone = octets_in(self.at("whole")), sexp.laid_out(value_in(octets_in(self.at("whole"))).value[1]).encode()
+        for name, octets in (("cut", whole[:-9]), ("c.sexp", b"\xef\xbb\xbf" + whole), ("mail", b"Hello,\n\n" + whole), ("to.carol", whole[:90]),
+                             ("stray", whole.replace(b"(signature", b"(signatur")), ("alone", alone), ("unsigned", b"(sequence %b)" % alone),
+                             ("altered", whole.replace(b"(packages read)", b"(packages)"))):
+            self.write(f"certs/{name}", octets)
+        self.write("certs/empty", "")
+        for name, octets in (("notes.txt", b"(acl"), ("README", b"certificates"), ("bob.pub", octets_in(self.at("bob.pub"))), ("list", b"(acl)")):
+            self.write(f"certs/{name}", octets)
+        named = {"cut": "form Short", "c.sexp": "a byte order mark", "mail": "one begins on line 3", "to.carol": "form Short",
+                 "stray": "UnsignedCert", "unsigned": "UnsignedCert", "altered": "DigestDiffers"}
+        asks = ("ask", "--acl", "acl.sexp", "--key", "carol.pub", "--cert", "certs")
+        output = self.cert(*asks, "--", "packages", "read", wanted=1)
+        self.assertIn("member 2 of the request is `read`, and the tag has `write`", output)
+        for words, more in ((output, {"alone": "UnsignedCert", "empty": "the file is empty"}), (self.cert("check", "certs", wanted=2), {})):
+            lines = {name: line for line in words.splitlines() for name in (*named, *more) if re.search(f"certs/{name}[:,]", line)}
+            self.assertEqual({name: line for name, line in {**named, **more}.items() if line not in lines.get(name, "")}, {}, words)
+            self.assertNotRegex(words, "certs/(other|notes|README|bob|list)")
+        self.assertNotIn("certs/", self.cert(*asks, "--", "packages", "write"))
+        self.write("acl.sexp", "(acl)")
+        self.assertIn("left out: certs/cut", self.cert(*asks, "--", "packages", "write", wanted=1))
 
     def test_why_certificates_do_not_join(self):
         """What `ask` says if a certificate defines another name than the entry's subject, has another issuer, or is valid at another time."""

@@ -4,7 +4,9 @@ octets that are made canonical. A text with four times the parts takes less than
 `spki_cert_tool` is the package of `spki-cert`. Work grows with the square of the parts, if each part leads to work on the whole text: each maker of a
 text says where that could be."""
 import hashlib
+import importlib
 import os
+import pkgutil
 import sys
 import tempfile
 import unittest
@@ -48,9 +50,10 @@ class Text(bytes):
 
 @contextmanager
 def counting() -> Iterator[None]:
-    """A context that sets SEEN to 0 and counts steps there: the events of `trace`, and the octets that the modules asking, certificates, checking and
-    making make canonical. The few of other modules are not counted. A `Text` adds its own."""
-    from spki_cert_tool import asking, certificates, checking, making, sexp
+    """A context that sets SEEN to 0 and counts steps there: the events of `trace`, the octets that each module of `spki_cert_tool` makes canonical,
+    and those that are hashed. A `Text` adds its own."""
+    import spki_cert_tool
+    from spki_cert_tool import sexp
 
     def trace(frame, event, _):
         """Adds 1 to SEEN for each event in `spki_cert_tool`: a call, a line, a return, an exception. Python calls this where a function begins. There
@@ -66,10 +69,21 @@ def counting() -> Iterator[None]:
         SEEN[0] += len(octets)
         return octets
 
+    def counting_hash(make):
+        """`make`, a function of hashlib, which adds the octets that it hashes, its last argument."""
+        def make_and_count(*words):
+            SEEN[0] += len(words[-1])
+            return make(*words)
+        return make_and_count
+
     SEEN[0] = 0
+    names = [name for _, name, _ in pkgutil.iter_modules(spki_cert_tool.__path__) if name not in ("__main__", "sexp")]
+    modules = [importlib.import_module(f"spki_cert_tool.{name}") for name in names]
     with ExitStack() as stack:
-        for module in (asking, certificates, checking, making):
+        for module in (module for module in modules if hasattr(module, "canonical")):
             stack.enter_context(mock.patch.object(module, "canonical", counting_canonical))
+        for name in ("new", "sha256"):
+            stack.enter_context(mock.patch.object(hashlib, name, counting_hash(getattr(hashlib, name))))
         before = sys.gettrace()
         sys.settrace(trace)
         try:
@@ -133,12 +147,20 @@ def entries_for_a_long_key(parts: int) -> bytes:
     return canonical([b"acl", *entries, *others])
 
 
+def names_of_a_long_key(parts: int) -> bytes:
+    """An entry for a long key, and `parts` for names of it, which have its hash. For each of those the long key must not be hashed again."""
+    long = key("k", 60 * parts)
+    names: Any = [[b"entry", [b"name", hash_of(long), b"n%d" % at], [b"tag", [b"ftp"]]] for at in range(parts)]
+    return canonical([b"acl", [b"entry", long, [b"tag", [b"ftp"]]], *names])
+
+
 def keys_in_lines(parts: int) -> bytes:
     """`parts` lines that begin as keys of OpenSSH do, and have no key. The place of each must be looked for after the one before it."""
     return b"".join(b"ssh-ed25519 AAAA%06d comment\n" % at for at in range(parts))
 
 
-CHECKED = [members_behind_a_long_line, entries_that_ended, long_display, hashes_of_a_long_key, entries_for_a_long_key, keys_in_lines]
+CHECKED = [members_behind_a_long_line, entries_that_ended, long_display, hashes_of_a_long_key, entries_for_a_long_key, names_of_a_long_key,
+           keys_in_lines]
 
 
 @needs.needs("import cryptography")
@@ -173,6 +195,14 @@ class OfCheck(unittest.TestCase):
         self.check_growth(lambda parts: making.list_without(key("a"), lists[parts]))
         text, gone = making.list_without(key("a"), lists[FEW])
         self.assertEqual((text, len(gone)), (b"(acl" + other * FEW + b")", FEW))
+
+    def test_lists_and_a_long_key(self) -> None:
+        """A long key whose entry is added to a list, or whose entries are removed from one, is made canonical once, and not for each entry there."""
+        from spki_cert_tool import making
+        longs = {parts: key("k", 60 * parts) for parts in (FEW, FEW * TIMES)}
+        lists = {parts: canonical([b"acl", *[[b"entry", key(f"o{at}"), [b"tag", [b"ftp"]]] for at in range(parts)]]) for parts in longs}
+        self.check_growth(lambda parts: making.list_without(longs[parts], lists[parts]))
+        self.check_growth(lambda parts: [*making.warnings_of_list([b"entry", longs[parts], [b"tag", [b"ftp"]]], lists[parts])])
 
     def test_compared_entries(self) -> None:
         """`warnings_of_list` compares the tag of a new entry with the tags in the list until the work reaches MOST_PRODUCTS. With a high bound it

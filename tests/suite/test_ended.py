@@ -144,17 +144,46 @@ class Ends(TestOfEnding):
         self.write(ENDED, sealed())
 
     def test_which_certificate_is_ended(self) -> None:
-        """What is ended is the last certificate of a file, with `--place` the one at a place, a certificate that is no sequence, or a digest, which
-        gets a remark. `first` has one certificate, `cert` is this one alone, and `second` has a second one. Their COMMENTS add no digest."""
+        """What is ended is the last certificate of a file, with `--place` the one at a place, or a digest, which gets a remark. `first` has one
+        certificate, and `second` has a second one. Their COMMENTS add no digest."""
         first, second = self.digests
-        for words, wanted in ((["second"], [second]), (["first"], [first]), (["cert"], [first]), (["second", "--place", "1"], [first]),
+        for words, wanted in ((["second"], [second]), (["first"], [first]), (["second", "--place", "1"], [first]),
                               (["second", "--place", "2"], [second]), (["first", "second"], [first, second]), (["--digest", B], [B]),
-                              (["--digest", B.upper()], [B]), (["first", "--digest", B, "--digest", C], [first, B, C]), (["first", "cert"], [first])):
+                              (["--digest", B.upper()], [B]), (["first", "--digest", B, "--digest", C], [first, B, C])):
             with self.subTest(words=words):
                 self.write(ENDED, sealed())
                 output = self.end(*words)
                 self.assertEqual((self.digests_in_file(), f"digests added: {len(wanted)};" in output), (wanted, True), output)
                 self.assertEqual("--digest is compared with no certificate" in output, "--digest" in words)
+
+    def test_only_a_sound_certificate_is_ended(self) -> None:
+        """A certificate whose signature is not valid, or is not there, is not ended: its digest would be that of another text, and the certificate
+        that was signed would count on. The status is 1, each such file is named with its fault and its digest, and nothing is written. `--digest`
+        ends it, and `--undo` takes it out again. In `second`, the first certificate is altered and the last one is sound."""
+        first, own = (values.canonical(advanced.read(self.octets(name))) for name in ("first", "own"))
+        altered = first.replace(b"(5:files)", b"(4:file)")
+        cert = values.canonical(advanced.read(altered)[1])  # type: ignore[index]
+        digest = hashlib.sha256(cert).hexdigest()
+        forged = altered.replace(bytes.fromhex(self.digests[0]), bytes.fromhex(digest))
+        for name, octets, fault in (("altered", altered, "its signature has another digest (DigestDiffers)"),
+                                    ("forged", forged, "the signature is not valid (NotAccepted)"),
+                                    ("cert", self.octets("cert"), "it has no signature (UnsignedCert)"),
+                                    ("both", altered[:-1] + own.removeprefix(b"(8:sequence"), "its signature has another digest (DigestDiffers)")):
+            with self.subTest(name=name):
+                self.write(ENDED, sealed())
+                self.write(name, octets)
+                wanted, of = self.digests[0] if name == "cert" else digest, "1 of 2" if name == "both" else "1 of 1"
+                for words in ([name], ["first", name]) if name != "both" else ([name, "--place", "1"],):
+                    output = self.end(*words, wanted=1)
+                    self.assertIn(f"{name}, certificate {of}: not ended: {fault}", output)
+                    self.assertIn(f"--digest {wanted}", output)
+                    self.check_unchanged(sealed(), output)
+                self.end("--digest", wanted)
+                self.assertEqual(self.digests_in_file(), [wanted])
+                self.end("--undo", name, *["--place", "1"] * (name == "both"))
+                self.assertEqual(self.digests_in_file(), [])
+        self.end("both")
+        self.assertEqual(self.digests_in_file(), self.digests[1:])
 
     def test_one_digest_in_each_form(self) -> None:
         """A certificate has the same digest in each form of S-expressions: `own` in the advanced one, and the last of `second` in braces."""

@@ -145,10 +145,10 @@ class OfWriting(TestWithKeys):
 
     def test_a_file_that_is_there_needs_force(self):
         """By `--force` the file is written over, also through a link, and keeps its mode. It is not if its mode lets nobody write."""
-        self.write("c.sexp", "before")
+        self.write("c.sexp", "(sequence)")
         os.chmod(self.at("c.sexp"), 0o640)
         self.assertIn("--force writes over it", self.sign("-o", "c.sexp", wanted=2))
-        self.assertEqual(octets_in(self.at("c.sexp")), b"before")
+        self.assertEqual(octets_in(self.at("c.sexp")), b"(sequence)")
         os.symlink("c.sexp", self.at("link"))
         self.sign("-o", "link", "--force")
         self.assertEqual((os.path.islink(self.at("link")), stat.S_IMODE(os.stat(self.at("c.sexp")).st_mode)), (True, 0o640))
@@ -156,6 +156,31 @@ class OfWriting(TestWithKeys):
         for mode in (0o444, 0o400, 0o000):
             os.chmod(self.at("c.sexp"), mode)
             self.check_not_written("sign", "--by", "alice", "--to", "bob.pub", "--tag", TAG, "--days", "1", "--force", "-o", "c.sexp")
+
+    def test_force_replaces_only_a_file_of_its_kind(self):
+        """A certificate takes the place of one, also of one that is damaged or not signed, and of an empty file. A list, an entry, a case, a picture,
+        JSON and any other text stay, and what the file is, is said. So it is for what other commands write."""
+        signs = ("sign", "--by", "alice", "--to", "bob.pub", "--tag", TAG, "--days", "1", "--force", "-o", "x")
+        draws, keys_of = ("show", "--svg", "x", "--force", "to-bob"), ("key", "--json", "--force", "-o", "x", "bob.pub")
+        adds = ("entry", "--to", "bob.pub", "--tag", TAG, "--force", "-o", "x")
+        braces = "{%s}" % base64.b64encode(b"(3:acl)").decode()
+        for words, kept, lost in (
+                (signs, {"(acl)": "`spki-cert entry --acl x` adds an entry to this list", braces: "adds an entry",
+                         "(entry)": "it has `(entry ..)`", "(case": "`(case ..)`", "<svg></svg>": "it is a picture",
+                         "[1]": "it is JSON", "notes": "it is another text", "\0\1": "it is another text",
+                         "#!/bin/sh\n(sequence)": "it is another text"},
+                 ("(sequence)", "(cert x)", "(sequence (", "", "\n ")),
+                (draws, {"(sequence)": "it has `(sequence ..)`: give another name", "notes": "another text"}, ("<svg></svg>",)),
+                (adds, {"(acl)": "adds an entry to this list", "(sequence)": "`(sequence ..)`"}, ("(entry)",)),
+                (keys_of, {"(sequence)": "`(sequence ..)`", "notes": "another text"}, ("[]",))):
+            for text, message in kept.items():
+                self.write("x", text)
+                self.changes_nothing(*words, message=message)
+            for text in lost:
+                self.write("x", text)
+                with self.subTest(words, text=text):
+                    self.cert(*words)
+                    self.assertNotEqual(octets_in(self.at("x")), text.encode())
 
     def check_not_written(self, *words):
         """A command must refuse, by the mode of c.sexp, to write this file, and leave it as it is."""
@@ -206,11 +231,11 @@ class OfWriting(TestWithKeys):
         self.assertEqual([name for name in os.listdir(self.room) if name.startswith(".")], [])
 
     def test_a_disk_that_is_full_leaves_the_file(self):
-        self.write("c.sexp", "before")
+        self.write("c.sexp", "(sequence)")
         for call in ("fsync", "fchmod", "replace"):
             with self.subTest(call), mock.patch.object(os, call, side_effect=OSError(28, "No space left on device")):
                 self.assertIn("the file is as before", self.sign("--force", "-o", "c.sexp", wanted=3))
-            self.assertEqual((octets_in(self.at("c.sexp")), [name for name in os.listdir(self.room) if name.startswith(".")]), (b"before", []))
+            self.assertEqual((octets_in(self.at("c.sexp")), [name for name in os.listdir(self.room) if name.startswith(".")]), (b"(sequence)", []))
 
     def test_a_folder_that_cannot_be_synced_is_reported(self):
         """The file is written then, and the status is 3. It is no fault if the folder may not be read, or if the file system does not sync folders.
@@ -284,6 +309,7 @@ class OfArguments(TestWithKeys):
         """No command of `mistakes.OF_WORDS` writes the file c.sexp. Each ends with the status and the words of its row."""
         for row in mistakes.OF_WORDS:
             self.write("authorized_keys", b"".join(public + b"\n" for _, public in self.pairs.values()))
+            self.write("altered", octets_in(self.at("to-bob")).replace(b"(packages read)", b"(packages)"))
             self.write("braces", b"{%s}" % base64.b64encode(sexp.canonical(value_in(octets_in(self.at("to-bob"))).value)))
             with self.subTest(row.what):
                 output = self.cert(*row.words, wanted=row.status)

@@ -131,7 +131,7 @@ MANY: dict[str, Any] = {"action": "append", "default": []}
 OPTIONS: dict[str, dict[str, Any]] = {
     "files": {"metavar": "FILE", "nargs": "+"},
     "key files": {"metavar": "FILE", "nargs": "+", "help": "a key"},
-    "end files": {"metavar": "FILE", "nargs": "*", "help": "a sequence, whose last certificate is meant, or a certificate"},
+    "end files": {"metavar": "FILE", "nargs": "*", "help": "a sequence, whose last certificate is meant"},
     "file": {**FILE, "type": one_line, "help": "the private key to make; the public key is FILE.pub"},
     "paths": {"metavar": "PATH", "nargs": "+"},
     "words": {"metavar": "WORD", "nargs": "*", "help": "the strings of the request"},
@@ -141,15 +141,15 @@ OPTIONS: dict[str, dict[str, Any]] = {
     "--no-passphrase": {**FLAG, "help": "do not encrypt it"},
     "--json": {**FLAG, "help": "write JSON, for programs"},
     "--output": {**FILE, "help": "where to write it, instead of standard output"},
-    "--force": {**FLAG, "help": "write over a file that is there, unless it is read or holds a key"},
+    "--force": {**FLAG, "help": "write over a file of the same kind that is there, unless it is read or holds a key"},
     "--svg": {**FILE, "help": "draw the chain, or the first file, as a picture"},
-    "--labels": {"metavar": "PATH", **MANY, "help": "what keys are called: public keys with comments, as authorized_keys has them, or a folder"},
+    "--labels": {"metavar": "PATH", **MANY, "help": "what keys are called: a folder, by its files, or a file such as authorized_keys, by comments"},
     "--at": {**DATE, "help": "the moment, as 2026-03-01 or 2026-03-01_12:00:00 in UTC; now if it is not given"},
     "--braces": {**FLAG, "help": "write each file on one line in braces instead, as `Authorization: SPKI {..}` has it"},
     "--key": {"metavar": "N", "type": count_of, "dest": "number", "help": "which key of a file of public keys, if it has several"},
     "--by": {"metavar": "KEY", "required": True, "type": not_empty, "help": "who signs: a private key, or a public key that ssh-agent holds"},
     "--to": {"metavar": "KEY", "type": not_empty, "help": "the subject: a file with its key, or an S-expression as '(hash sha256 #..#)'"},
-    "--named": {"metavar": "NAME", **MANY, "type": one_line, "help": "a name of --to, instead of the key itself, or without --to of the issuer"},
+    "--named": {"metavar": "NAME", **MANY, "type": one_line, "help": "a name of --to, whose holder says who that is, or without --to of the issuer"},
     "--name": {"metavar": "NAME", "required": True, "type": one_line, "help": "the name that the issuer gives to the subject"},
     "--tag": {"metavar": "TAG", "type": not_empty, "help": "the requests that are allowed, as '(packages read (* prefix /web/))'"},
     "--propagate": {**FLAG, "help": "the subject may delegate the right"},
@@ -160,12 +160,13 @@ OPTIONS: dict[str, dict[str, Any]] = {
     "--comment": {"metavar": "TEXT", "type": one_line, "help": "a comment, which grants nothing"},
     f"{NEW_KEY} --comment": {"metavar": "TEXT", "type": one_line, "help": "what the key is called; the name of the file if it is not given"},
     "--yes": {**FLAG, "help": "make it although it is probably a mistake"},
+    "entry --yes": {**FLAG, "help": "make it although it is probably a mistake, or remove several entries"},
     "end --yes": {**FLAG, "help": "with --adopt: take also a file that has no digests, or another number of them than its last line says"},
     "--chain": {**FILE, "help": "the sequence by which the issuer has the right: it is verified, and written in front"},
     "--anyway": {**FLAG, "help": "make it although by --chain its issuer cannot give it"},
     "--acl": {**FILE, "help": "the access list to put it in, which is made if it is not there"},
     "--store": {"metavar": "DATABASE", "type": not_empty, "help": "the store of spki-store to put it in, by settings of libpq as 'dbname=acl'"},
-    "--remove": {**FLAG, "help": "remove the entries for --to from the list instead"},
+    "--remove": {**FLAG, "help": "remove the entries for --to from the list instead, and write them: several only with --yes"},
     "ask --acl": {**FILE, "help": "the access list"},
     "ask --key": {**FILE, "help": "the key that requests"},
     "--cert": {"metavar": "PATH", "nargs": "+", "action": "extend", "default": [],
@@ -215,7 +216,8 @@ written only with --yes, as by `spki-cert sign`.""",
               "entry --to alice.pub --tag '(packages)' --propagate --acl acl.sexp",
               f"{FIELDS} --tag --propagate --try --output|--acl|--store --remove"),
     "show": ("say in words what a list, a certificate, a sequence or a case says", """\
-Shows access lists, certificates, sequences and cases: who, to whom, what, until when, delegated or not, and valid or not.""",
+Shows access lists, certificates, sequences and cases: who, to whom, what, until when, delegated or not, and valid or not.
+Its status is 1 if a signature is not valid or not there.""",
              "show acl.sexp to-bob.sexp", "files --labels --at --json --svg --force --braces"),
     "ask": ("decide a request, and say why", """\
 Decides a request by an access list and certificates, as a service does, and says why or why not. All certificates
@@ -223,12 +225,14 @@ that are given are looked through for a chain from the list to the key. The word
             "ask --acl acl.sexp --key bob.pub --cert to-bob.sexp -- packages read /web/index.html",
             "words --labels --at --json --svg --force --acl --key --cert --case --open --save --sequence"),
     "check": ("say what is wrong in files, and what is probably a mistake", """\
-Checks each file that is given, and each file of a folder: S-expressions (.sexp, .csexp, .tsexp, or no suffix) and keys. Prints
-what a service would refuse, with line and column, and what is legal and probably a mistake. Lines with `refused:` are errors.""",
+Checks each file that is given, and each file of a folder: S-expressions (.sexp, .csexp, .tsexp, or no suffix), what begins as a
+certificate, and keys. Prints what a service would refuse, with line and column, and what is legal and probably a mistake. Lines
+with `refused:` are errors.""",
               "check certificates/", "paths --json"),
     "end": ("end a certificate before its date", """\
 Ends certificates before their date: puts their digests into the file that `spki-authd` reads as "ended". They count from the next
-reload on. Of a FILE its last certificate is meant, or that of --place. Without FILE and --digest it makes the file if it is not there.
+reload on. Of a FILE its last certificate is meant, or that of --place, and its signature must be valid. Without FILE and --digest it
+makes the file if it is not there.
 
 The file has a last line with the number and the digest of the others, and is refused if it was cut or changed by hand.""",
             "end to-bob.sexp --reason 'laptop stolen' --ended ended", "files --ended --place --digest --reason --undo|--list|--adopt --yes"),

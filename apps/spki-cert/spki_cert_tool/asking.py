@@ -17,8 +17,8 @@ from dataclasses import dataclass, field, replace
 from functools import cached_property
 from typing import TYPE_CHECKING
 
-from .certificates import (Keys, Signed, Steps, Terms, certificates_in, chains, entries_of, fault_of_signature, first_member, keys_in, members,
-                           sequence_of, string_of)
+from .certificates import (Keys, Signed, Steps, Terms, accepted_by, certificates_in, chains, entries_of, fault_of_signature, first_member, keys_in,
+                           members, sequence_of, string_of)
 from .certificates import field as field_of
 from .files import Refused, now
 from .forms import Parser, suggestion
@@ -26,7 +26,7 @@ from .keys import hash_of, principal_of
 from .making import sequence_with
 from .sexp import Value, canonical, on_one_line
 from .showing import FAULTS, Labels
-from .tag_words import covers, lacks
+from .tag_words import covers, fitting, lacks
 
 if TYPE_CHECKING:
     from spki import Explanation, Guard, Question, Reason
@@ -35,8 +35,10 @@ if TYPE_CHECKING:
 MOST_CHAINS = 64
 # The most certificates and strings of a question. A service may allow fewer.
 MOST_SHOWN = 65536
-# The words of `explain` for a chain that joins to its end. Only then a right `(five ..)` is left of the entry.
-JOINED = ("grants", "TagLacks", "WindowLacks", "NotTheKey")
+# The words of `explain` for a chain that joins to its end at the key that asks; and for one that lacks something else on the way.
+AT_THE_KEY, ON_THE_WAY = ("grants", "TagLacks", "WindowLacks"), ("NoDelegation", "NoValidity", "NoTag")
+# Those for a chain that joins to its end. Only then a right `(five ..)` is left of the entry.
+JOINED = (*AT_THE_KEY, "NotTheKey")
 
 
 @dataclass
@@ -58,6 +60,10 @@ class Asked:
     """The rows of a case, which say what signatures are valid. None if signatures are verified."""
     unsigned: bytes | None = None
     """A certificate that is not signed yet, in canonical form. It counts as if it were."""
+    paths: list[str] = field(default_factory=list)
+    """The paths of the files of the sequences, or none if they are from no files."""
+    left_out: list[str] = field(default_factory=list)
+    """A line on each file that is perhaps a certificate, and from which no sequence is."""
 
     def verify(self, key: bytes, message: bytes, value: bytes) -> bool:
         """Whether a signature counts: by the rows of a case, or else because it is valid or its certificate is `unsigned`. The three texts are
@@ -70,9 +76,13 @@ class Asked:
 
     @cached_property
     def rows(self) -> set[tuple[bytes, bytes, bytes]]:
-        """The rows of a case, each as the key in canonical form, the SHA-256 digest of the certificate, and the value in canonical form."""
-        parts = [members(row) for row in self.accepted or []]
-        return {(canonical(key), string_of(members(digest)[1]) or b"", canonical(value)) for key, digest, value in parts}
+        """What the rows of a case accept, as `accepted_by` has it."""
+        return accepted_by(self.accepted or [])
+
+    @cached_property
+    def fits(self) -> list[int]:
+        """What `fits_of` returns."""
+        return fits_of(self.access_list, self.request)
 
 
 @dataclass
@@ -90,11 +100,13 @@ class Answer:
     Otherwise 0."""
     is_cut: bool = False
     """Whether the search for chains ended at its bound."""
+    fits: list[int] = field(default_factory=list)
+    """What `fits_with` returns, or nothing if it is granted."""
 
     @property
     def chosen(self) -> Reason | None:
         """The reason that is said in words. None if there is none: the list has no entries, and the signatures count."""
-        return furthest(self.reasons)
+        return nearest(self.reasons, self.fits)
 
     def remaining_right(self, entry: int) -> Value:
         """The right `(five ..)` that is left of an entry, by its number from 1, at the end of the chain. The chain must join to its end."""
@@ -102,10 +114,32 @@ class Answer:
         return Parser(self.reduced[entry - 1].split(" ", 2)[2].encode()).whole().value
 
 
-def furthest(reasons: list[Reason]) -> Reason | None:
-    """The reason of the entry that goes furthest: it grants, or its chain ends last. A reason without an item joins to its end, and of equal ones the
-    first entry is taken. None if there are no reasons."""
-    return max(reasons, key=lambda reason: (reason.word == "grants", reason.item or sys.maxsize, -(reason.entry or 0))) if reasons else None
+def fits_of(access_list: Value, request: Value) -> list[int]:
+    """For each entry, how many members of a request its tag contains, as `fitting` counts them."""
+    return [fitting(entry.tag or b"", request) for entry in entries_of(access_list)]
+
+
+def fits_with(sequence: Value, request: Value, fits: list[int]) -> list[int]:
+    """The same for the tags of each entry and of all certificates of a sequence. `fits` are those of `fits_of`."""
+    tags = [signed.terms.tag for signed in certificates_in(sequence) if signed.terms.tag is not None]
+    least = min((fitting(tag, request) for tag in tags), default=sys.maxsize)
+    return [min(least, fit) for fit in fits]
+
+
+def nearest(reasons: list[Reason], fits: list[int]) -> Reason | None:
+    """The reason of the entry that comes nearest to granting: it grants; or its chain leads to the key that asks, and of several such its tags
+    contain the most members of the request; or its chain ends last. One without an item goes to its end, and of equal ones the first entry is taken.
+    `fits` are those of `fits_with`. None if there are no reasons."""
+    # (entries that one certificate joins have one subject, so the rest of the chain joins for all of them or for none)
+    first = min((reason.item or sys.maxsize for reason in reasons), default=0)
+    misses = any(reason.word == "NotTheKey" or reason.word in ("NotIssuer", "NotTheName") and (reason.item or 0) > first for reason in reasons)
+    leads = not misses or any(reason.word in AT_THE_KEY for reason in reasons)
+
+    def rank_of(reason: Reason) -> tuple[bool, int, int, int, int]:
+        fit = fits[reason.entry - 1] if fits and reason.entry else 0
+        is_near = leads and reason.word in (*AT_THE_KEY, *ON_THE_WAY)
+        return reason.word == "grants", fit if is_near else -1, reason.item or sys.maxsize, fit, -(reason.entry or 0)
+    return max(reasons, key=rank_of) if reasons else None
 
 
 def guard_of(asked: Asked) -> Guard:
@@ -135,7 +169,8 @@ def answer_of(guard: Guard, asked: Asked, sequence: Value) -> Answer:
             grant = opened.decide()
             decided = f"entry {grant.entry} grants it" if grant else "no entry grants it"
             explanation: Explanation = opened.explain()
-            return Answer(sequence, grant.entry if grant else None, list(explanation.reasons()), opened.reduce().text.splitlines())
+            return Answer(sequence, grant.entry if grant else None, list(explanation.reasons()), opened.reduce().text.splitlines(),
+                          fits=[] if grant else fits_with(sequence, asked.request, asked.fits))
     except spki.Refused as why:
         if decided:
             raise Refused(f"a service decides that {decided}, but cannot say why: {why.line}") from None
@@ -145,8 +180,8 @@ def answer_of(guard: Guard, asked: Asked, sequence: Value) -> Answer:
 def best_answer(asked: Asked) -> Answer:
     """The answer that the command `ask` prints: the first one that grants. The library is asked about the only sequence that is given, as it is, or
     about an empty one if none or several are given, and then about each chain that `sequences_to` finds. If none grants, the answer is that of the
-    only sequence, if it has certificates, else that of the chain that goes furthest, or of the empty sequence if there is no chain. Raises Refused
-    as `guard_of` and `answer_of` do."""
+    only sequence, if it has certificates, else that of the chain that comes nearest, or of the empty sequence if there is no chain. Raises Refused as
+    `guard_of` and `answer_of` do."""
     with guard_of(asked) as guard:
         sequence_given = asked.sequences[0] if len(asked.sequences) == 1 else [b"sequence"]
         answer_as_given = answer_of(guard, asked, sequence_given)
@@ -163,11 +198,13 @@ def best_answer(asked: Asked) -> Answer:
     return replace(best, unused=unused, is_cut=steps.is_cut)
 
 
-def rank(answer: Answer) -> tuple[bool, int]:
-    """A key for `max` among answers that do not grant: how far the chain goes. One that joins to its end at the key goes furthest, else one that
-    joins to its end at another key, else one that is stopped by a later item."""
+def rank(answer: Answer) -> tuple[int, bool, int]:
+    """A key for `max` among answers that do not grant, whose chains lead to the key that asks: first how many members of the request the tags of the
+    chain contain, then how far it goes. One that joins to its end goes furthest, else one that is stopped by a later item."""
     chosen = answer.chosen
-    return (chosen is not None and chosen.word in ("TagLacks", "WindowLacks"), (chosen.item or sys.maxsize) if chosen else 0)
+    if chosen is None or chosen.entry is None:
+        return -1, False, 0
+    return answer.fits[chosen.entry - 1], chosen.word in AT_THE_KEY, chosen.item or sys.maxsize
 
 
 def sequences_to(asked: Asked, steps: Steps) -> Iterator[Value]:
@@ -227,18 +264,26 @@ class Words:
         chosen = self.answer.chosen
         wants = f"{self.asker} requests {on_one_line(self.asked.request)} at {self.asked.moment.decode()}"
         yield f"{'yes' if self.answer.entry is not None else 'no'}: {wants}"
-        if chosen is None:
-            yield "the access list has no entries"
-            return
         # (a signature that is not valid stops the chains of all entries, so its reason has no entry)
-        if chosen.entry is not None:
+        if chosen is not None and chosen.entry is not None:
             yield from (f"  {name}: {self.statement_of(terms)}" for name, terms in self.links_of(chosen, with_stop=True))
-        yield from self.lines_of_cause(chosen)
+        yield from self.lines_of_cause(chosen) if chosen is not None else ["the access list has no entries"]
         if self.answer.unused:
             leads = "no chain was found that leads" if self.answer.is_cut else "no chain leads"
             yield f"  of the {self.answer.unused} certificates at hand, {leads} from an entry to {self.asker}"
         if self.answer.is_cut:
             yield f"  the search for chains ended after {Steps.most:,} steps or {MOST_CHAINS} chains: give only the certificates of the chain"
+        if self.answer.entry is None:
+            yield from (f"  left out: {line}" for line in self.lines_left_out())
+
+    def lines_left_out(self) -> Iterator[str]:
+        """Yields a line for each file or certificate that is left out of the search, since it is damaged, or its signature is not valid. A sequence
+        that is the only one is asked about as it is."""
+        yield from self.asked.left_out
+        keys = keys_at_hand(self.asked)
+        for path, sequence in zip(self.asked.paths, self.asked.sequences) if len(self.asked.sequences) > 1 else []:
+            faults = ((signed.number, fault_of_signature(signed, keys)) for signed in certificates_in(sequence))
+            yield from (f"{path}, item {number}: {FAULTS[fault]} ({fault})" for number, fault in faults if fault)
 
     def links_of(self, chosen: Reason, with_stop: bool = False) -> list[tuple[str, Terms]]:
         """The entry of a reason, if it has one, and the certificates before the item that stops the chain, or all if none does: each as its name, as

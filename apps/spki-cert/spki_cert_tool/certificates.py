@@ -157,23 +157,25 @@ def certificates_in(sequence: Value) -> list[Signed]:
 
 
 class Keys:
-    """Keys that are known, to be found by the principals that name them. Each is made canonical once: many hashes may name a long one. A hash may be
-    added too: no principal names one."""
+    """Keys that are known, to be found by the principals that name them. Each is made canonical once: a long one may be named or compared many times.
+    A hash may be added too, which changes nothing."""
 
     def __init__(self, keys: Iterable[Value] = ()) -> None:
         # (both by the algorithm and the digest of a hash: the key; and its canonical text with the SHA-256 digest of it)
         self.by_hash: dict[tuple[bytes, bytes], Value] = {}
         self.texts: dict[tuple[bytes, bytes], tuple[bytes, bytes]] = {}
+        # (by the identity of a principal: itself, so that no other object gets this identity, and what `text_of` returns)
+        self.made: dict[int, tuple[Value, tuple[bytes, bytes]]] = {}
         for key in keys:
             self.add(key)
 
     def add(self, key: Value) -> None:
         """Adds a key, by its hash in each algorithm. The first of equal ones stays."""
-        octets = canonical(key)
-        for algorithm in ("sha1", "sha256", "sha512"):
-            name = algorithm.encode(), hashlib.new(algorithm, octets).digest()
+        text = self.text_of(key)
+        for algorithm in ("sha1", "sha256", "sha512") if not headed(key, b"hash") else ():
+            name = algorithm.encode(), hashlib.new(algorithm, text[0]).digest()
             self.by_hash.setdefault(name, key)
-            self.texts.setdefault(name, (octets, hashlib.sha256(octets).digest()))
+            self.texts.setdefault(name, text)
 
     def named(self, principal: Value) -> Value | None:
         """The key that a principal names, or None if it is a hash of no key that is known."""
@@ -189,9 +191,11 @@ class Keys:
         match principal:
             case [b"hash", bytes() as algorithm, bytes() as digest, *_] if (algorithm, digest) in self.texts:
                 return self.texts[algorithm, digest]
-        # (a hash may have `(uri ..)` behind its digest)
-        octets = canonical(principal[:3] if headed(principal, b"hash") and isinstance(principal, list) else principal)
-        return octets, hashlib.sha256(octets).digest()
+        if id(principal) not in self.made:
+            # (a hash may have `(uri ..)` behind its digest)
+            octets = canonical(principal[:3] if headed(principal, b"hash") and isinstance(principal, list) else principal)
+            self.made[id(principal)] = principal, (octets, hashlib.sha256(octets).digest())
+        return self.made[id(principal)][1]
 
     def are_one(self, one: Value | None, other: Value | None) -> bool:
         """Whether two principals name the same key, by the keys that are known. False if one is None."""
@@ -215,6 +219,13 @@ def fault_of_signature(signed: Signed, keys: Keys) -> str | None:
     # (here, because it takes a tenth of a second)
     from spki_verify import verify_texts
     return None if verify_texts(key=keys.text_of(issuer)[0], message=certificate, value=canonical(value)) else "NotAccepted"
+
+
+def accepted_by(rows: Iterable[Value]) -> set[tuple[bytes, bytes, bytes]]:
+    """The signatures that the rows of a case accept: for each the key in canonical form, the SHA-256 digest of the certificate, and the value in
+    canonical form."""
+    parts = [members(row) for row in rows]
+    return {(canonical(key), string_of(members(digest)[1]) or b"", canonical(value)) for key, digest, value in parts}
 
 
 @dataclass

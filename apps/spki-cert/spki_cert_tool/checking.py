@@ -1,6 +1,7 @@
 """Checks files: what a service would refuse, with the place, and what is legal and probably a mistake."""
 import itertools
 import os
+import re
 from collections import deque
 from collections.abc import Iterator
 from typing import NamedTuple
@@ -17,6 +18,8 @@ from .tag_words import MOST_PRODUCTS, gives_all_of, is_everything, remarks
 
 # The suffixes of the files in a folder that are always looked at.
 S_EXPRESSIONS, OTHER_KEYS = (".sexp", ".csexp", ".tsexp"), (".pub", ".pem", ".key")
+# A line that begins as a certificate does, perhaps behind a byte order mark.
+CERTIFICATE = re.compile(rb"^(?:\xef\xbb\xbf)?[ \t]*\([ \t]*(?:\d+:)?(?:sequence|cert)\b", re.MULTILINE)
 # The heads of all kinds of texts, which a misspelled head is compared with.
 HEADS = (*BY_HEAD, *ALONE, b"tag", b"request", b"private-key")
 # The lists in which entries, certificates, keys and hashes are looked for. Other lists, such as tags, may have any heads in them.
@@ -67,7 +70,9 @@ def remarks_on(path: str, moment: bytes, is_given: bool = True) -> tuple[str | N
     except Refused as why:
         return "no file that can be read", [Remark(path, 1, 1, is_refused=True, text=why.lines[0].removeprefix(f"{path}: "))]
     suffix, begins_as_list = os.path.splitext(path)[1], octets.lstrip()[:1] in (b"(", b"{")
-    if not (is_given or suffix in S_EXPRESSIONS + OTHER_KEYS or is_key_file(octets) or not suffix and begins_as_list):
+    # (a certificate that is damaged may begin with anything, and one that begins as such may have any name)
+    may_be_text = suffix in S_EXPRESSIONS or not suffix and (begins_as_list or CERTIFICATE.search(octets)) or CERTIFICATE.match(octets)
+    if not (is_given or suffix in OTHER_KEYS or is_key_file(octets) or may_be_text):
         return None, []
     if is_key_file(octets) or is_private(octets) and not is_text(octets):
         return remarks_on_key_file(path, octets)
@@ -213,13 +218,13 @@ def mistakes_in_key(node: Node) -> Iterator[tuple[int, str]]:
 def invalid_signatures(node: Node) -> Iterator[tuple[int, str]]:
     """Yields the certificates of a sequence or a case whose signatures are not valid: for each the offset in the text, and a remark. A signature by
     a key of a kind that services do not verify is left out if only its value is in doubt."""
+    from spki_verify import public_of as public_of_text
     # (the sequence is the third part of a case, behind the head, the list and the rows)
     sequence = node if node.head == b"sequence" else (node.members or [])[3]
     value = sequence.value
     keys = Keys(keys_in(value))
     for signed in certificates_in(value):
-        key = keys.named(signed.terms.issuer or b"")
         fault = fault_of_signature(signed, keys)
-        if fault and (key is None or public_of(key) is not None or fault != "NotAccepted"):
+        if fault and (fault != "NotAccepted" or public_of_text(keys.text_of(signed.terms.issuer or b"")[0]) is not None):
             # (item 1 of a sequence is its member 1, since its head is member 0)
             yield (sequence.members or [])[signed.number].begin, f"{FAULTS[fault]} ({fault})"

@@ -16,18 +16,17 @@ from collections.abc import Callable, Iterable, Iterator
 from typing import NoReturn
 
 from .arguments import NEW_KEY, completion, parser_of_commands
-from .certificates import headed, members, terms_of
+from .certificates import Terms, headed, members, terms_of
 from .ending import end
 from .files import (DONE, FAILED, NO, READ, REFUSED, TERMINAL, UNCONFIRMED, Refused, key_at, locked, now, octets_of, passphrase_for, remark_on_mode,
                     say, signer_at, target_of, tell, text_at, value_headed, value_of, value_of_word, write, write_output)
-from .forms import Wrong
-from .keys import BadKey, file_of, hash_of, kind_of, new_private, openssh_line, principal_of
+from .keys import BadKey, file_of, hash_of, is_key_file, is_private, kind_of, new_private, openssh_line, principal_of
 from .making import (certificate_of, fields_of, list_with, list_without, signed_sequence, text_of, warnings_of, warnings_of_certificate,
                      warnings_of_list)
-from .places import has_private_key, value_in
+from .places import has_private_key, read_text
 from .requesting import request
 from .sexp import Value, canonical, on_one_line
-from .showing import Labels, lines_of, rows_of, what_is
+from .showing import FAULTS, Labels, lines_of, rows_of, what_is
 from .structures import PRINCIPALS, read_subject, read_tag
 
 # The signals that end the program by `end_by_signal`.
@@ -93,6 +92,7 @@ def sign(given: argparse.Namespace) -> int:
     # (a list, so that both are called, and all warnings are told)
     if not all([confirm(given.anyway, "--anyway", lacking), confirm(given.yes, "--yes", warnings)]):
         return UNCONFIRMED
+    tell(*remark_on_name(given, terms))
     write((given.output, text_of(signed_sequence(certificate, signer, chain))), force=given.force)
     return DONE
 
@@ -117,9 +117,11 @@ def add(given: argparse.Namespace) -> int:
     before = list_at(given.acl) if is_there else b"(acl)"
     # (also without --acl: it raises Refused for an entry that a service would refuse)
     text = list_with(new_entry, before)
-    warnings = [*warnings_of(terms_of(new_entry), given.tag, [*map(request_of, given.tries)]), *warnings_of_list(new_entry, before)]
+    terms = terms_of(new_entry)
+    warnings = [*warnings_of(terms, given.tag, [*map(request_of, given.tries)]), *warnings_of_list(new_entry, before)]
     if not confirm(given.yes, "--yes", warnings):
         return UNCONFIRMED
+    tell(*remark_on_name(given, terms))
     if given.store is not None:
         return add_to_store(text_of(new_entry), given.store)
     if not given.acl:
@@ -143,15 +145,23 @@ def add_to_store(text: bytes, settings: str) -> int:
 
 
 def remove(given: argparse.Namespace) -> int:
-    """Removes the entries for the subject of --to from an access list. Returns NO if there are none. The list of a stream is written in any case,
-    since its reader waits for it, and that of a file only if it changes."""
+    """Removes the entries for the subject of --to from an access list. Writes them as they stood, first, so that they can be put into the list again.
+    Returns NO if there are none, or if there are several and no --yes. The list of a stream is written in any case, since its reader waits for it,
+    and that of a file only if it changes."""
+    before, is_stream = list_at(given.acl), given.acl == "-"
     # (the key itself: a hash by one algorithm would not find entries by another)
-    text, removed = list_without(subject_of(given, naming=lambda key: key), list_at(given.acl))
-    if removed or given.acl == "-":
-        write((given.acl, text), edits=True)
-    advice = f"; {given.to} has none; `spki-cert show {given.acl}` lists them" if not removed else ""
-    say(*(f"entry {number}, {tag}: removed" for number, tag in removed), f"entries removed: {len(removed)}{advice}", is_aside=given.acl == "-")
-    return DONE if removed else NO
+    text, removed = list_without(subject_of(given, naming=lambda key: key), before)
+    is_removed = len(removed) == 1 or bool(removed) and given.yes
+    if is_removed:
+        say(*(entry for *_, entry in removed), is_aside=is_stream)
+    if is_removed or is_stream:
+        write((given.acl, text if is_removed else before), edits=True)
+    advice = "" if is_removed else f"; {given.to} has {len(removed)}, and --yes removes all of them"
+    if not removed:
+        advice = f"; {given.to} has none; `spki-cert show {given.acl}` lists them"
+    tell(*(f"entry {number}, {tag}{': removed' if is_removed else ''}" for number, tag, _ in removed),
+         f"entries removed: {len(removed) if is_removed else 0}{advice}")
+    return DONE if is_removed else NO
 
 
 def list_at(path: str) -> bytes:
@@ -169,6 +179,17 @@ def confirm(is_given: bool, option: str, warnings: Iterable[str]) -> bool:
     is_made = is_given or not lines
     tell(*(f"spki-cert: {line}" for line in lines), *([] if is_made else [f"spki-cert: nothing was written; {option} makes it as it is"]))
     return is_made
+
+
+def remark_on_name(given: argparse.Namespace, terms: Terms) -> Iterator[str]:
+    """Yields a line that says who decides who the subject of a new certificate or entry is, if that is a name of another key than the issuer's."""
+    labels = Labels()
+    if os.path.isfile(given.to or ""):
+        labels.add_path(given.to)
+    if decider := labels.decider_of(terms):
+        what = "who has this right" if terms.name is None else "whom this name means"
+        advice = "; without --to it is a name of yours" if given.command != "entry" else ""
+        yield f"spki-cert: {decider} decides who is {labels.label_of_subject(terms.subject)}, and so {what}{advice}"
 
 
 def fields_given(given: argparse.Namespace) -> list[Value]:
@@ -220,7 +241,7 @@ def labels_of(given: argparse.Namespace, *paths: str) -> Labels:
 
 def show(given: argparse.Namespace) -> int:
     """Says what access lists, certificates, sequences and cases say: in words or in JSON, and the first one also as a picture; or writes all of them
-    in braces, and nothing else. Returns DONE."""
+    in braces, and nothing else. Returns NO if one has a certificate that does not count, and else DONE."""
     labels, moment = labels_of(given), given.at or now()
     values = [(path, value_headed(path, (b"acl", b"cert", b"sequence", b"case"), NOT_SHOWN)) for path in given.files]
     if given.braces:
@@ -229,13 +250,14 @@ def show(given: argparse.Namespace) -> int:
     if given.svg:
         from .drawing import svg_of
         write((given.svg, svg_of(values[0][1], labels)), force=given.force)
+    shown = [(path, value, [*rows_of(value, moment, labels)]) for path, value in values]
     if given.json:
-        return say(json.dumps([{"file": path, "shows": [*rows_of(value, moment, labels)]} for path, value in values], indent=1))
+        say(json.dumps([{"file": path, "shows": rows} for path, _, rows in shown], indent=1))
     # (no words where the picture goes to standard output)
-    for path, value in values if given.svg != "-" else []:
-        lines = (line for row in rows_of(value, moment, labels) for line in lines_of(row))
-        say(f"{path}: {what_is(value)}", *(f"  {line}" for line in lines))
-    return DONE
+    elif given.svg != "-":
+        for path, value, rows in shown:
+            say(f"{path}: {what_is(value)}", *(f"  {line}" for row in rows for line in lines_of(row)))
+    return NO if any(row.get("fault") for _, _, rows in shown for row in rows) else DONE
 
 
 def ask(given: argparse.Namespace) -> int:
@@ -253,8 +275,9 @@ def ask(given: argparse.Namespace) -> int:
         # (a folder of --cert may have public keys too, which give labels; a file of --cert is a sequence, and labels no key)
         labels = labels_of(given, *filter(os.path.isfile, [given.key]), *filter(os.path.isdir, given.cert))
         # (--open asks for the open policy, under which hashes by SHA-1 name keys)
-        asked = Asked(value_of(given.acl, "acl"), key, request_of(given.words), given.at or now(), labels,
-                      [value_of(path, "sequence") for path in sequences_below(given.cert)], is_strict=not given.open)
+        access_list, (paths, sequences, left_out) = value_of(given.acl, "acl"), sequences_at(given.cert)
+        asked = Asked(access_list, key, request_of(given.words), given.at or now(), labels, sequences, is_strict=not given.open, paths=paths,
+                      left_out=left_out)
     answer = best_answer(asked)
     lines = list(Words(asked, answer).lines())
     # (the sequence that grants is neither empty nor one of those that were given, but put together from their certificates)
@@ -272,15 +295,26 @@ def ask(given: argparse.Namespace) -> int:
     return DONE if answer.entry is not None else NO
 
 
-def sequences_below(paths: list[str]) -> Iterator[str]:
-    """Yields the paths of the sequences: each file that is given itself, whatever it has, and the files in given folders that are headed by
-    `sequence`."""
-    from .checking import files_below
+def sequences_at(paths: list[str]) -> tuple[list[str], list[Value], list[str]]:
+    """The paths and the values of sequences: of each file that is given itself, and of those in given folders. And a line on each file of a folder
+    that is perhaps a certificate and is left out, since it has no signature or would be refused. Raises Refused for a given file that is no
+    sequence, and for one that cannot be read."""
+    from .checking import files_below, remarks_on
+    found, left_out = list[tuple[str, Value]](), list[str]()
     for path, is_given in files_below(paths):
-        # (a file that is no S-expression is no sequence)
-        with contextlib.suppress(Wrong):
-            if is_given or value_in(octets_of(path)).head == b"sequence":
-                yield path
+        if is_given:
+            found.append((path, value_of(path, "sequence")))
+            continue
+        octets = octets_of(path)
+        (wrong, _, _), node = read_text(octets)
+        if wrong is None and node.head == b"sequence":
+            found.append((path, node.value))
+        elif wrong is None and node.head == b"cert":
+            left_out.append(f"{path}: {FAULTS['UnsignedCert']} (UnsignedCert)")
+        elif not is_key_file(octets) and not is_private(octets):
+            # (an empty file is looked at as if it were given: a disk was perhaps full)
+            left_out += [str(remark) for remark in remarks_on(path, now(), is_given=not octets.strip())[1] if remark.is_refused][:1]
+    return [path for path, _ in found], [value for _, value in found], left_out
 
 
 def check(given: argparse.Namespace) -> int:

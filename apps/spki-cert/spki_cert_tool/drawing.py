@@ -1,7 +1,7 @@
 """Draws the delegation chain of a case, which is one text with a whole question, as SVG. A certificate is an arrow, and what stops the chain is red.
 `svg_of` also draws the arrows of an access list, a certificate or a sequence.
 
-The chain of a case is that of the entry that grants the request, else of the entry whose chain goes furthest. The library says what stops it, and
+The chain of a case is that of the entry that grants the request, else of the entry that comes nearest to that. The library says what stops it, and
 what right is left at its end. Other entries are left out. Long texts are broken into lines, and nothing but white space is cut off. A `Value` is an
 S-expression: `bytes`, a pair of them with a display hint in front, or a list of values.
 """
@@ -14,7 +14,7 @@ from collections.abc import Callable, Iterable, Iterator
 from html import escape
 from typing import TYPE_CHECKING, NamedTuple
 
-from .asking import Answer, Asked, asked_of_case, best_answer, case_of, furthest
+from .asking import Answer, Asked, asked_of_case, best_answer, case_of, fits_of, fits_with, nearest
 from .certificates import Keys, entries_of, field, headed, keys_in, members, terms_of
 from .sexp import Value, canonical, on_one_line
 from .showing import Labels
@@ -117,11 +117,12 @@ class Drawing:
 
 
 def drawing_of_case(case: Value, reasons: list[Reason], reduced: Callable[[int], Value], labels: Labels | None = None, width: int = WIDTH) -> Drawing:
-    """The drawing of a case, for the reason that goes furthest of the library's `reasons`. `reduced` returns the right `(five ..)` that is left of an
+    """The drawing of a case, for the reason that comes nearest of the library's `reasons`. `reduced` returns the right `(five ..)` that is left of an
     entry, by its number from 1: it is called only if the chain joins to its end. Without reasons the drawing is empty. `labels` and `width` are as
     for Drawing."""
-    chosen = furthest(reasons)
-    access_list, _, sequence, key = members(case)[:4]
+    access_list, _, sequence, key, asks = members(case)[:5]
+    request = members(asks)[0]
+    chosen = nearest(reasons, fits_with(sequence, request, fits_of(access_list, request)))
     drawing = Drawing([members(key)[0], *keys_in(sequence)], labels, width)
     if chosen is not None:
         if chosen.entry is not None:
@@ -238,6 +239,6 @@ def svg_of(value: Value, labels: Labels) -> bytes:
 
 
 def svg_of_answer(asked: Asked, answer: Answer) -> bytes:
-    """The chain of an answer as SVG: that of the reason that goes furthest. `asked` is the question."""
+    """The chain of an answer as SVG: that of the reason that comes nearest. `asked` is the question."""
     drawing = drawing_of_case(case_of(asked, answer.sequence), answer.reasons, answer.remaining_right, asked.labels, PICTURE_WIDTH)
     return "\n".join([*svg_of_drawing(drawing, "The chain of a request", PICTURE_PIXELS), ""]).encode()

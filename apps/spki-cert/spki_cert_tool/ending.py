@@ -12,9 +12,10 @@ import re
 import stat
 from collections.abc import Iterable
 
-from .certificates import certificates_in, headed
+from .certificates import Keys, certificates_in, fault_of_signature, headed, keys_in
 from .files import DONE, NO, UNCONFIRMED, Refused, locked, now, octets_of, say, tell, value_headed, write
 from .keys import digest_of
+from .showing import FAULTS
 
 # The most octets of the file, since `spki-authd` reads no more, and the most letters of a reason.
 MOST_ENDED, MOST_REASON = 1 << 24, 200
@@ -123,30 +124,36 @@ def write_lines(path: str, lines: list[bytes]) -> None:
 # ---- the certificates that are meant
 
 
-def digest_at(path: str, place: int | None) -> tuple[str, str]:
-    """The digest in hexadecimal of a certificate in a file, and what it is called: the file, and its number among the certificates. `place` is this
-    number, from 1, or None for the last one. A file that is a certificate has one. Raises Refused if there is no such certificate, or if the
-    file cannot be read or is of another kind."""
-    value = value_headed(path, (b"cert", b"sequence"), "only a certificate of a sequence, or one that is alone, is ended")
-    certificates = [value] if headed(value, b"cert") else [signed.terms.value for signed in certificates_in(value)]
+def digest_at(path: str, place: int | None, is_verified: bool) -> tuple[str, str, str | None]:
+    """The digest in hexadecimal of a certificate in a file, what it is called, which is the file and its number among the certificates, and with
+    `is_verified` why it does not count: one of FAULTS, else None. `place` is the number, from 1, or None for the last one. A file that is a
+    certificate has one. Raises Refused if there is no such certificate, or if the file cannot be read or is of another kind."""
+    value = value_headed(path, (b"cert", b"sequence"), "only a certificate of a sequence is ended")
+    signed = certificates_in(value)
+    certificates = [value] if headed(value, b"cert") else [each.terms.value for each in signed]
     count = len(certificates)
     number = count if place is None else place
     if not 1 <= number <= count:
         raise Refused(f"{path}: there is no certificate{'' if place is None else f' {place}'}; it has {count}")
-    return digest_of(certificates[number - 1]).hex(), f"{path}, certificate {number} of {count}"
+    fault = None
+    if is_verified:
+        fault = fault_of_signature(signed[number - 1], Keys(keys_in(value))) if signed else "UnsignedCert"
+    return digest_of(certificates[number - 1]).hex(), f"{path}, certificate {number} of {count}", fault
 
 
-def digests_named(given: argparse.Namespace) -> dict[str, str]:
+def digests_named(given: argparse.Namespace, is_verified: bool = False) -> tuple[dict[str, str], list[str]]:
     """The digests of all certificates that the command line names, each with what it is called: first those of the FILEs, then those of --digest,
-    each in the order given. A certificate that is named twice keeps the first name. Raises Refused for a --digest that is not 64 hexadecimal digits,
-    and for a FILE as `digest_at` does."""
+    each in the order given. A certificate that is named twice keeps the first name. With `is_verified` also a line for each FILE whose certificate
+    does not count, unless --digest names it too. Raises Refused for a --digest without 64 hexadecimal digits, and for a FILE as `digest_at` does."""
     for digest in given.digest:
         if not DIGITS.fullmatch(digest):
             raise Refused(f"--digest {digest}: a digest has 64 hexadecimal digits; `spki-cert show FILE` prints that of a certificate")
-    names: dict[str, str] = {}
-    for digest, name in [digest_at(path, given.place) for path in given.files] + [(digest.lower(), digest.lower()) for digest in given.digest]:
+    digits, names, faults = [digest.lower() for digest in given.digest], dict[str, str](), list[str]()
+    for digest, name, fault in [digest_at(path, given.place, is_verified) for path in given.files] + [(digest, digest, None) for digest in digits]:
         names.setdefault(digest, name)
-    return names
+        if fault and digest not in digits:
+            faults.append(f"{name}: not ended: {FAULTS[fault]} ({fault}); if this text itself is meant: --digest {digest}")
+    return names, faults
 
 
 # ---- the commands
@@ -164,9 +171,12 @@ def make(given: argparse.Namespace) -> int:
 
 def add(given: argparse.Namespace) -> int:
     """Ends certificates: adds their digests to the file, each with today's date in UTC and at most MOST_REASON letters of --reason as a
-    comment. Says which of them had ended before: they are not written twice. Returns DONE. Raises Refused, OSError or Failed as `digests_named`,
-    `lines_in` and `write_lines` do."""
-    digests = digests_named(given)
+    comment. Says which of them had ended before: they are not written twice. If a FILE has one whose signature is not valid, perhaps since it was
+    altered, none is ended, and NO is returned. Raises Refused, OSError or Failed as `digests_named`, `lines_in` and `write_lines` do."""
+    digests, faults = digests_named(given, is_verified=True)
+    if faults:
+        tell(*(f"spki-cert: {fault}" for fault in faults), "spki-cert: nothing was written")
+        return NO
     # (of the present moment, as 2026-03-01_12:00:00, the first 10 octets are the date)
     comment = f"{now()[:10].decode()} {visible(given.reason)[:MOST_REASON]}".rstrip()
     with locked(given.ended):
@@ -183,7 +193,7 @@ def add(given: argparse.Namespace) -> int:
 
 def undo(given: argparse.Namespace) -> int:
     """Takes digests out of the file: all that are named, or none. Returns NO if one of them is not there."""
-    digests = digests_named(given)
+    digests, _ = digests_named(given)
     with locked(given.ended):
         lines = lines_in(given.ended)
         ended_before = digests_of(lines)

@@ -301,7 +301,8 @@ def moment_of(text: str, time_of_day: str = "_00:00:00") -> bytes:
 def target_of(path: str, new: bytes, force: bool, edits: bool) -> tuple[str, os.stat_result | None]:
     """The file that a path leads to, and its state before it is written, or None if there is none. `new` are the octets to be written. Raises Refused
     if the file must not be written. One that the command has read needs `edits`, and only one name; it may be a key, since the command edits it.
-    Another one that is there needs `force`, and must be neither a key, or what may be one, nor the file of ended certificates."""
+    Another one that is there needs `force`, and must be empty or of the kind that is written, and neither a key, or what may be one, nor the file of
+    ended certificates."""
     place = os.path.realpath(path)
     try:
         before = os.stat(place)
@@ -323,8 +324,8 @@ def target_of(path: str, new: bytes, force: bool, edits: bool) -> tuple[str, os.
         if not is_read and (is_key or ENDED.match(old)):
             what = "a key, or what may be one," if is_key else "the file of ended certificates"
             raise Refused(f"{path}: {what} is there already, and is not written over; nothing was written")
-        if not is_read and not force:
-            raise Refused(f"{path}: this file is there already; {advice_on_existing(path, old, new)}; nothing was written")
+        if not is_read and (advice := advice_on_existing(path, old, new, force)):
+            raise Refused(f"{path}: this file is there already; {advice}; nothing was written")
         return place, before
     except FileNotFoundError:
         if not os.path.isdir(os.path.dirname(place)):
@@ -334,14 +335,23 @@ def target_of(path: str, new: bytes, force: bool, edits: bool) -> tuple[str, os.
         raise Refused(f"{path}: {why.strerror}; nothing was written") from None
 
 
-def advice_on_existing(path: str, old: bytes, new: bytes) -> str:
-    """What to do where a file is there already, in words. `old` are its octets, perhaps in braces, and `new` those to be written. If `old` has a head
-    that `new` does not begin with, the path is probably a mistake, and --force is not advised."""
-    head = head_of_text(old)
-    if head is None or new.startswith(b"(" + head):
-        return "--force writes over it"
-    is_list = head == b"acl"
-    return f"`spki-cert entry --acl {path}` adds an entry to this list" if is_list else f"it has `({head.decode()} ..)`: give another name"
+def advice_on_existing(path: str, old: bytes, new: bytes, force: bool) -> str:
+    """What to do where a file is there already, in words, or nothing if `force` lets it be written over. `old` are its octets, and `new` those to be
+    written. If they are of another kind, the path is probably a mistake. An empty file is of each kind, and a certificate of that of a sequence."""
+    if not old.strip() or what_begins(old).replace("(cert ", "(sequence ") == what_begins(new):
+        return "" if force else "--force writes over it"
+    front = "--force replaces only a file of its kind; " if force else ""
+    if head_of_text(old) == b"acl":
+        return f"{front}`spki-cert entry --acl {path}` adds an entry to this list"
+    return f"{front}{what_begins(old)}: give another name"
+
+
+def what_begins(octets: bytes) -> str:
+    """What kind of file octets are by how they begin, in words, of those that are written here."""
+    if (head := head_of_text(octets)) is not None:
+        return f"it has `({head.decode()} ..)`"
+    begin = octets.lstrip()[:4]
+    return "it is a picture" if begin == b"<svg" else "it is JSON" if begin[:1] == b"[" else "it is another text"
 
 
 def head_of_text(octets: bytes) -> bytes | None:

@@ -8,7 +8,8 @@ import re
 from collections.abc import Iterator
 
 from .certificates import Keys, Terms, certificates_in, entries_of, headed, members, remarks_on_window, terms_of
-from .files import Refused, Signer, now
+from .files import CONTROLS, Refused, Signer, now
+from .forms import Node
 from .keys import hash_of, principal_of, verifies
 from .places import lines_of_fault, place_shown, read_form, read_text, value_in
 from .sexp import Value, canonical, laid_out, on_one_line
@@ -63,9 +64,10 @@ def sequence_with(chain: Value | None, key: Value, certificate: Value, value: Va
     return [b"sequence", *items, *keys_shown, certificate, [b"signature", hash_of(certificate), principal_of(key), value]]
 
 
-def list_without(subject: Value, before: bytes) -> tuple[bytes, list[tuple[int, str]]]:
-    """The text of the access list `before` without the entries for a subject and the white space in front of them, and the numbers, from 1, and tags
-    of these. The rest stays as it is, unless the list is in braces: then it is written in advanced form. A key and a hash of it are one subject."""
+def list_without(subject: Value, before: bytes) -> tuple[bytes, list[tuple[int, str, str]]]:
+    """The text of the access list `before` without the entries for a subject and the white space in front of them, and of each of these the number,
+    from 1, the tag, and the text, as `text_shown` has it. The rest stays as it is, unless the list is in braces: then it is written in advanced form.
+    A key and a hash of it are one subject."""
     if before.lstrip().startswith(b"{"):
         before = text_of(value_in(before).value)
     # (an entry without a tag has terms too, of which only the subject is used)
@@ -78,7 +80,14 @@ def list_without(subject: Value, before: bytes) -> tuple[bytes, list[tuple[int, 
     ends = [0, *(entries[index].end for index in removed)]
     # (the text before each entry that is removed; what is after the last one follows)
     pieces = [before[end:entries[index].begin].rstrip() for end, index in zip(ends, removed)]
-    return b"".join(pieces) + before[ends[-1]:], [(index + 1, on_one_line(entry_terms[index].tag or b"")) for index in removed]
+    gone = [(index + 1, on_one_line(entry_terms[index].tag or b""), text_shown(entries[index], before)) for index in removed]
+    return b"".join(pieces) + before[ends[-1]:], gone
+
+
+def text_shown(node: Node, text: bytes) -> str:
+    """The part of a text that a node is, as it stands there, or in advanced form if it has characters that are not visible."""
+    part = text[node.begin:node.end].decode("latin-1")
+    return part if part.isascii() and not CONTROLS.search(part) else on_one_line(node.value)
 
 
 def refuse_as_service(what: str, text: bytes) -> None:

@@ -5,6 +5,7 @@ members its own members contain, one by one. `(*)` contains every request, `(* s
 strings that begin so, and `(* range ORDERING ge LOW le HIGH)` the strings between two limits. A `Value` is an S-expression: `bytes`, a pair of them
 with a display hint in front, or a list of values.
 """
+import itertools
 import operator
 import re
 from collections.abc import Iterator
@@ -61,6 +62,18 @@ def lacks(tag: Value, request: Value, place: str = "the request") -> str | None:
             return lacks(tag_member, member, f"member {number} of {place}")
     count = len(request)
     return f"{place} has {count} members, and the tag at least {len(tag)}: `{on_one_line(tag[count])}` is asked for as member {count + 1}"
+
+
+def fitting(tag: Value, request: Value) -> int:
+    """How many members of a request a tag contains, before the first one that differs. If it contains the request, that is one more than there are:
+    1 for a string. The tag must be one that `read_tag` accepts."""
+    if holds(tag, request):
+        return 1 + len(request) if isinstance(request, list) else 1
+    if headed(tag, b"*"):
+        return max((fitting(member, request) for member in members(tag)[2:]), default=0) if members(tag)[0] == b"set" else 0
+    if not isinstance(tag, list) or not isinstance(request, list):
+        return 0
+    return sum(1 for _ in itertools.takewhile(lambda pair: holds(*pair), zip(tag, request)))
 
 
 def is_in_range(behind: list[Value], request: bytes) -> bool:
