@@ -42,6 +42,8 @@ class ServerSite(served.Site):
     on_port: list[tuple[str, str, str]] = []
     # What is replaced, and by what, so that the site takes requests for OTHER too.
     both_hosts: list[tuple[str, str, str]] = []
+    # Whether clients write files.
+    writes = True
     # The file with the lines of the site, and the text with which these begin; what is replaced in those of a second site beside its name and its
     # folder; and the address of that site.
     begins: tuple[str, str] = "", ""
@@ -152,7 +154,7 @@ class Caddy(ServerSite):
         "a folder of its own": [("Caddyfile", SITE, "file_server /secret/*\n")], "all files": [("Caddyfile", SITE, "file_server browse\n")],
         "the root of all": [("Caddyfile", SITE, "root * {room}/files\nfile_server\n")]}
     hole = [("Caddyfile", "\troute {\n", "respond *.css 404\n")]
-    begins = ("Caddyfile", "https://localhost:")
+    writes, begins = False, ("Caddyfile", "https://localhost:")
     both_hosts = [("Caddyfile", "https://localhost:{port} {", f"https://{OTHER}:{{port}}, https://localhost:{{port}} {{")]
     on_port = [("Caddyfile", "forward_auth unix/{room}/run/socket {\n", "forward_auth https://127.0.0.1:{port} {\ntransport http {\n"
                 "tls_trusted_ca_certs {room}/etc/authd.crt\ntls_server_name spki-authd\n}\n"),
@@ -287,15 +289,16 @@ class FileHandler(Handler):
     """Reads, writes or deletes the file that a request names. So a test sees by the files whether a request came that should have been denied."""
 
     def answer(self, status: int, octets: bytes = b"") -> None:
-        """Sends an answer with a status and a body, but to HEAD no body. Its fields say that a cache may keep it."""
-        self.send_head(status, f"Content-Length: {len(octets)}", "Cache-Control: max-age=60", "Last-Modified: Thu, 01 Jan 2026 00:00:00 GMT")
-        if self.command != "HEAD" and octets:
+        """Sends an answer with a status and a body, but to HEAD and with 304 no body. Its fields say that a cache may keep it."""
+        self.send_head(status, f"Content-Length: {len(octets)}", "Cache-Control: max-age=60", "Surrogate-Control: max-age=60",
+                       "CDN-Cache-Control: max-age=60", "Last-Modified: Thu, 01 Jan 2026 00:00:00 GMT")
+        if self.command != "HEAD" and status != 304 and octets:
             self.wfile.write(octets)
 
     def do_GET(self) -> None:
         try:
             with open(self.file(), "rb") as file:
-                self.answer(200, file.read())
+                self.answer(304 if self.headers["If-None-Match"] else 206 if self.headers["Range"] else 200, file.read())
         except OSError:
             self.answer(404)
 

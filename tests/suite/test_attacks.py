@@ -75,8 +75,14 @@ class Table(unittest.TestCase):
         os.symlink("../secret", cls.site.at("files/web/link"))
 
     def check_ann(self) -> None:
-        """Ann must get the page that she may read."""
-        self.assertEqual(self.site.status("ann", "GET", "/web/index.html"), 200)
+        """Ann must get the page that she may read, with the fields that keep it from others."""
+        answer = self.site.answer("ann", attacks.request(attacks.WEB))
+        self.assertEqual(attackers.statuses(answer), [200])
+        self.check_fields_of(answer)
+
+    def check_fields_of(self, answer: bytes) -> None:
+        """By its fields an answer to a request that was granted must not be kept by caches."""
+        self.assertEqual(list(attackers.faults_of_fields(answer)), [], answer)
 
     def check_rows(self, column: str) -> None:
         """Each chosen attack of a column must fail. First Ann must be granted her page. In a stopped column the daemon is stopped then, and a plain
@@ -121,6 +127,21 @@ class Table(unittest.TestCase):
                     self.check_denied([*attackers.ASKED, *attackers.GRANTED], attackers.DENIED | attackers.UNDECIDED)
                 finally:
                     self.site.start_daemon()
+
+    def check_fields(self) -> None:
+        """No cache may keep what Ann is granted: a file, a part of it, that it has not changed, or that it is not there. The server behind HAProxy
+        says that one may. No field of a denial says
+        that a cache may keep it."""
+        self.site.restart_with([])
+        rows = [*attackers.READS, *attackers.WRITES] if self.kind.writes else attackers.READS
+        for method, path, line, status in rows:
+            with self.subTest(method=method, path=path, line=line):
+                answer = self.site.answer("ann", attacks.request(path, line, method=method, body="new" if method == "PUT" else ""))
+                self.assertEqual(attackers.statuses(answer), [status])
+                self.check_fields_of(answer)
+                self.assertNotIn("max-age", attackers.fields_of_answer(answer).get("cache-control", ""))
+        denied = attackers.fields_of_answer(self.site.answer("eve", attacks.request(attacks.WEB)))
+        self.assertIn(denied.get("cache-control"), (None, "private, no-store"))
 
     def check_hosts(self) -> None:
         """Of two sites that ask one daemon each has its own list. Eve may do everything at the site OTHER and nothing at `localhost`, and gets
@@ -216,6 +237,7 @@ def table_of(kind: type[web_servers.ServerSite]) -> Callable[[type[Table]], type
             setattr(table, f"test_{re.sub('[^a-z]+', '_', column)}", lambda self, column=column: self.check_rows(column))
         setattr(table, "test_other_sites", lambda self: self.check_sites())
         setattr(table, "test_probe", lambda self: self.check_probe())
+        setattr(table, "test_fields", lambda self: self.check_fields())
         setattr(table, "test_hosts", lambda self: self.check_hosts())
         if kind.on_port:
             setattr(table, "test_port", lambda self: self.check_port())
