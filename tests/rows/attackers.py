@@ -66,15 +66,17 @@ def fields_of_answer(answer: bytes) -> dict[str, str]:
     return fields
 
 
-def faults_of_fields(answer: bytes) -> Iterator[str]:
-    """A line for each fault of the fields of an answer that was granted: a cache may keep it for others, or a browser may guess its
-    type."""
+def faults_of_fields(answer: bytes, has_clients_files: bool) -> Iterator[str]:
+    """A line for each fault of the fields of an answer that was granted: a cache may keep it for others, a browser may guess its type or, if the site
+    has files that clients write, run scripts in it."""
     fields = fields_of_answer(answer)
     directives = fields.get("cache-control", "").replace(" ", "").split(",")
     yield from (f"a cache is not told {each}" for each in ("private", "no-store") if each not in directives)
     yield from (f"a cache is told {each}" for each in ("surrogate-control", "cdn-cache-control") if each in fields)
     if fields.get("x-content-type-options") != "nosniff":
         yield "a browser may guess its type"
+    if has_clients_files and "sandbox" not in fields.get("content-security-policy", "").split(","):
+        yield "a browser may run its scripts"
 
 
 def statuses(answer: bytes) -> list[int]:

@@ -81,8 +81,8 @@ class Table(unittest.TestCase):
         self.check_fields_of(answer)
 
     def check_fields_of(self, answer: bytes) -> None:
-        """By its fields an answer to a request that was granted must not be kept by caches."""
-        self.assertEqual(list(attackers.faults_of_fields(answer)), [], answer)
+        """By its fields an answer to a request that was granted must not be kept by caches, nor run as a script where clients write."""
+        self.assertEqual(list(attackers.faults_of_fields(answer, self.kind.writes)), [], answer)
 
     def check_rows(self, column: str) -> None:
         """Each chosen attack of a column must fail. First Ann must be granted her page. In a stopped column the daemon is stopped then, and a plain
@@ -130,10 +130,14 @@ class Table(unittest.TestCase):
 
     def check_fields(self) -> None:
         """No cache may keep what Ann is granted: a file, a part of it, that it has not changed, or that it is not there. The server behind HAProxy
-        says that one may. No field of a denial says
+        says that one may. What a client has written, as the page that the robot leaves, runs no script in Ann's browser. No field of a denial says
         that a cache may keep it."""
         self.site.restart_with([])
-        rows = [*attackers.READS, *attackers.WRITES] if self.kind.writes else attackers.READS
+        written = "/web/out/page.html"
+        if self.kind.writes:
+            self.assertEqual(self.site.status("robot", "PUT", written, body="<script>alert(1)</script>"), 201)
+            self.addCleanup(os.remove, self.site.at(f"files{written}"))
+        rows = [*attackers.READS, ("GET", written, "A: b", 200), *attackers.WRITES] if self.kind.writes else attackers.READS
         for method, path, line, status in rows:
             with self.subTest(method=method, path=path, line=line):
                 answer = self.site.answer("ann", attacks.request(path, line, method=method, body="new" if method == "PUT" else ""))

@@ -43,7 +43,7 @@ class OfSite(unittest.TestCase):
     def check_ann(self) -> None:
         """Ann must get the page that she may read, with the fields that keep it from others."""
         answer = self.site.answer("ann", b"GET /web/index.html HTTP/1.1\r\nHost: localhost\r\nConnection: close\r\n\r\n")
-        self.assertEqual((statuses(answer), list(faults_of_fields(answer))), ([200], []))
+        self.assertEqual((statuses(answer), list(faults_of_fields(answer, True))), ([200], []))
 
 
 @needs.needs(*served.NEEDS, *needs.LIBRARY)
