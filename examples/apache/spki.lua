@@ -1,5 +1,8 @@
 -- /etc/apache2/spki.lua: asks spki-authd before each request. Debian's lua-socket is needed. Whatever goes wrong here is 503 or 500.
 local unix = require "socket.unix"
+-- The name of the site: each site has its own copy of this file. The daemon is told this name, and never the client's `Host`, which could choose the
+-- list of another site.
+local SITE = "files.example.org"
 
 -- The line of a header, or an empty text where there is no value. Fails for a value with a control character: a line feed could begin another header.
 local function line(name, value)
@@ -17,7 +20,7 @@ local function ask_daemon(r)
     client:settimeout(5)
     assert(client:connect("/run/spki-authd/socket"))
     assert(client:send("GET / HTTP/1.0\r\n" .. line("X-Original-Method", r.method) .. line("X-Original-URI", r.unparsed_uri)
-        .. line("X-Original-Host", r.hostname) .. line("X-Real-IP", r.useragent_ip)
+        .. line("X-Original-Host", SITE) .. line("X-Real-IP", r.useragent_ip)
         .. line("X-Client-Cert", certificate) .. line("X-Request-Id", r.log_id) .. line("Authorization", r.headers_in["Authorization"])
         .. line("X-Spki-Sequence", r.headers_in["X-Spki-Sequence"]) .. line("Signature", r.headers_in["Signature"])
         .. line("Signature-Input", r.headers_in["Signature-Input"]) .. line("X-Spki-Public-Key", r.headers_in["X-Spki-Public-Key"])
@@ -32,8 +35,9 @@ end
 
 -- The function of two hooks: that of access, and that of fixups, which is the last before a file is served. `Satisfy Any` and subrequests skip the
 -- first one, and another module's script may end the second. What the first has granted is not asked again. DECLINED lets the request go on; what
--- else is returned is the status of a denial: 401, 403, or 503 if the daemon does not decide.
+-- else is returned is the status of a denial: 401, 403, 421 for another host, or 503 if the daemon does not decide.
 function decide(r)
+    if r.hostname ~= SITE then return 421 end
     if r.notes["spki_answer"] == "yes" then return apache2.DECLINED end
     -- (where the call fails, `status` is the error)
     local has_answered, status, answer = pcall(ask_daemon, r)

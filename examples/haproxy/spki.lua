@@ -1,5 +1,6 @@
--- /etc/haproxy/spki.lua: asks spki-authd about a request, and sets txn.spki_answer to `yes`, `no` or, for its status 401, `unauthenticated`. Nothing
--- is set if it does not answer within 5 seconds, for a status from 500 on, and for one below that is not 401 and has no X-Spki-Answer.
+-- /etc/haproxy/spki.lua: asks spki-authd about a request to the site of this name, and sets txn.spki_answer to `yes`, `no` or, for its status 401,
+-- `unauthenticated`. Nothing is set if it does not answer within 5 seconds, for a status from 500 on, and for one below that is not 401 and has no
+-- X-Spki-Answer.
 
 -- A list of all values of a header, as the client has sent them. nil if there is none. (HAProxy counts them from 0, and a list of Lua from 1)
 local function values(headers, name)
@@ -11,11 +12,11 @@ local function values(headers, name)
 end
 
 -- (`sf` and `sc` give an empty text where there is no certificate; `c:base64` of nil would give eight zero octets)
-core.register_action("spki", { "http-req" }, function(txn)
+core.register_action("spki", { "http-req" }, function(txn, site)
     local headers = txn.http:req_get_headers()
     local answer = core.httpclient():get{ url = "http://spki-authd/", dst = "unix@/run/spki-authd/socket", timeout = 5000, headers = {
         ["x-original-method"] = { txn.sf:method() }, ["x-original-uri"] = { txn.sf:pathq() }, ["x-request-id"] = { txn.sf:unique_id() },
-        ["x-original-host"] = { txn.sf:req_fhdr("host") }, ["x-real-ip"] = { txn.sf:src() },
+        ["x-original-host"] = { site }, ["x-real-ip"] = { txn.sf:src() },
         ["x-client-cert"] = { txn.sc:base64(txn.sf:ssl_c_der()) },
         ["authorization"] = values(headers, "authorization"), ["x-spki-sequence"] = values(headers, "x-spki-sequence"),
         ["signature"] = values(headers, "signature"), ["signature-input"] = values(headers, "signature-input"),
@@ -30,4 +31,4 @@ core.register_action("spki", { "http-req" }, function(txn)
     elseif decisions and answer.status < 500 then
         txn:set_var("txn.spki_answer", "no")
     end
-end, 0)
+end, 1)

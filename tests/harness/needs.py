@@ -76,6 +76,7 @@ NEEDS = [Need(*words) for words in [
     ("haproxy", "haproxy", "attacks on `spki-authd` behind HAProxy"),
     ("apache2", "apache2", "attacks on `spki-authd` behind Apache"),
     ("/usr/lib/*/lua/5.3/socket/unix.so", "lua-socket", "attacks on `spki-authd` behind Apache"),
+    ("varnishd", "varnish", "a cache before the example behind nginx"),
     ("git", "git", "git over HTTPS by a key, at the example behind nginx"),
     ("rsync", "rsync", "rsync over TLS by a key, behind HAProxy"),
     ("curl", "curl", "the example behind nginx, and what docs/OPERATING.md says"),

@@ -51,7 +51,7 @@ class Site:
     def __init__(self) -> None:
         self.room = tempfile.mkdtemp(prefix="site-")
         self.port = free_port()
-        self.contexts: dict[str | None, ssl.SSLContext] = {}
+        self.contexts: dict[tuple[str | None, bool, tuple[str, ...]], ssl.SSLContext] = {}
         self.settings = {**os.environ, "PATH": path_of_commands(), "PORT": str(self.port), "SPKI_LIBRARY": built.shared()}
         self.program = build_daemon_into(tempfile.mkdtemp(prefix="daemon-"))
         self.sh(os.path.join(EXAMPLE, "setup.sh"), self.room, str(self.port))
@@ -152,34 +152,40 @@ class Site:
 
     # ---- asking
 
-    def context(self, who: str | None) -> ssl.SSLContext:
-        """The TLS settings of a client. `who` names its certificate and key, as `ann`, or `ann.crt ann` by their files. None: it has none."""
-        if who not in self.contexts:
-            self.contexts[who] = context = ssl.create_default_context(cafile=self.at("ca/ca.crt"))
+    def context(self, who: str | None, knows_name: bool, protocols: tuple[str, ...]) -> ssl.SSLContext:
+        """The TLS settings of a client. `who` names its certificate and key, as `ann`, or `ann.crt ann` by their files. None: it has none. If
+        `knows_name`, the server's certificate must have the name that is asked for. The client offers `protocols`, as `h2`, or none."""
+        name = who, knows_name, protocols
+        if name not in self.contexts:
+            self.contexts[name] = context = ssl.create_default_context(cafile=self.at("ca/ca.crt"))
+            context.check_hostname = knows_name
+            if protocols:
+                context.set_alpn_protocols(protocols)
             if who is not None:
                 certificate, _, key = who.partition(" ")
                 context.load_cert_chain(self.at(f"keys/{certificate if key else certificate + '.crt'}"), self.at(f"keys/{key or certificate}"))
-        return self.contexts[who]
+        return self.contexts[name]
 
     @contextlib.contextmanager
-    def connected(self, who: str | None) -> Iterator[ssl.SSLSocket]:
-        """A context with a connection of a client, by TLS. `who` names its certificate and key, or is None for none."""
-        with socket.create_connection(("127.0.0.1", self.port), SECONDS) as plain:
-            with self.context(who).wrap_socket(plain, server_hostname="localhost") as client:
+    def connected(self, who: str | None, name: str | None = "localhost", *protocols: str, address: str = "127.0.0.1") -> Iterator[ssl.SSLSocket]:
+        """A context with a connection of a client to the web server at `address`, by TLS. `who` names its certificate and key, or is None for none.
+        TLS asks for `name`, or for none, and looks for it in the server's certificate if it is `localhost`."""
+        with socket.create_connection((address, self.port), SECONDS) as plain:
+            with self.context(who, name == "localhost", protocols).wrap_socket(plain, server_hostname=name) as client:
                 yield client
 
-    def answer(self, who: str | None, request: bytes) -> bytes:
+    def answer(self, who: str | None, request: bytes, name: str | None = "localhost", address: str = "127.0.0.1") -> bytes:
         """All that the web server answers to the octets `request`, until it ends the connection. Empty if there is no connection. Where the rate is
-        exceeded (429), the client asks again each 0.2 seconds, without end. `who` names its certificate and key, or is None for none."""
-        while (answer := self.answer_at_once(who, request)).startswith(b"HTTP/1.1 429"):
+        exceeded (429), the client asks again each 0.2 seconds, without end. `connected` says what the other arguments are."""
+        while (answer := self.answer_at_once(who, request, name, address)).startswith(b"HTTP/1.1 429"):
             time.sleep(0.2)
         return answer
 
-    def answer_at_once(self, who: str | None, request: bytes) -> bytes:
+    def answer_at_once(self, who: str | None, request: bytes, name: str | None = "localhost", address: str = "127.0.0.1") -> bytes:
         """All that the web server answers to the octets `request`, sent once: also 429, if the rate is exceeded. Empty if there is no connection. If
-        the server breaks it, or is silent for 600 s, what came before: OSError is suppressed. `who` names certificate and key, None is without."""
+        the server breaks it, or is silent for 600 s, what came before: OSError is suppressed. `connected` says what the other arguments are."""
         answer = b""
-        with contextlib.suppress(OSError), self.connected(who) as client:
+        with contextlib.suppress(OSError), self.connected(who, name, address=address) as client:
             client.sendall(request)
             while octets := client.recv(65536):
                 answer += octets

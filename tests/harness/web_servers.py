@@ -1,6 +1,7 @@
 """The web servers that ask spki-authd, each as its example in examples/ sets it up, in the folder of a site: the port, the folders and the names of a
 real server are replaced. Each can be started with more configuration lines, as other sites have them: for error pages, a cache and so on."""
 import http.server
+import json
 import os
 import re
 import socketserver
@@ -15,10 +16,12 @@ from harness.support import EXAMPLES
 
 SORRY, SORRY_TEXT = "/sorry.html", "we are sorry"
 ERRORS = "500 502 503 504"
+# The name of a second site, which asks the same daemon.
+OTHER = "b.example"
 # Configuration lines of other sites: the file, a text of it, and the lines that are put behind this text.
 More = list[tuple[str, str, str]]
-MODULES = ("mpm_event", "authz_core", "authz_host", "access_compat", "ssl", "lua", "dav", "dav_fs", "http2", "dir", "mime", "env", "setenvif",
-           "alias", "cache", "cache_disk", "include", "rewrite")
+MODULES = ("mpm_event", "authz_core", "authz_host", "access_compat", "ssl", "lua", "headers", "dav", "dav_fs", "http2", "dir", "mime", "env",
+           "setenvif", "alias", "cache", "cache_disk", "include", "rewrite")
 FOLDER_OF_MODULES = "/usr/lib/apache2/modules"
 SOCKET_OF_LUA = "/usr/lib/*/lua/5.3/socket/unix.so"
 
@@ -37,26 +40,34 @@ class ServerSite(served.Site):
     hole: More = []
     # What is replaced, and by what, where the daemon is on a port with TLS: what the pages say. A server that cannot ask there has nothing.
     on_port: list[tuple[str, str, str]] = []
+    # What is replaced, and by what, so that the site takes requests for OTHER too.
+    both_hosts: list[tuple[str, str, str]] = []
+    # Whether clients write files.
+    writes = True
+    # The file with the lines of the site, and the text with which these begin; what is replaced in those of a second site beside its name and its
+    # folder; and the address of that site.
+    begins: tuple[str, str] = "", ""
+    of_second: list[tuple[str, str]] = []
+    second_address = "127.0.0.1"
 
     def prepare(self) -> None:
         """Writes the files of the server's example, for this site. `originals` has the former text of each file that is changed now, by its name."""
         self.originals: dict[str, str] = {}
         self.write(f"files{SORRY}", SORRY_TEXT)
+        for folder in ("other", "other/web", "other/secret"):
+            os.mkdir(self.at(folder))
+        self.write("other/secret/plan.txt", "other")
         self.write("etc/authd.json", self.text("etc/authd.json").replace('"server": "nginx"', f'"server": "{self.name}"'))
         for name in self.files:
             with open(os.path.join(EXAMPLES, self.name, name), encoding="utf-8") as file:
                 self.write(f"etc/{name}", self.replaced(file.read()))
 
     def replaced(self, text: str) -> str:
-        """The text of a file of the example, with this site's folders and host name in the place of those of a real server."""
+        """The text of a file of the example, with this site's folders and name in the place of those of a real server."""
         for name, here in (("/etc/spki-files", "etc"), ("/run/spki-authd", "run"), ("/run/spki-files", "run/files"), ("/srv/files", "files"),
                            ("/etc/haproxy", "etc"), ("/etc/apache2", "etc"), ("/var/lock/apache2", "tmp"), ("/var/log/nginx", "log")):
             text = text.replace(name, self.at(here))
-        return text.replace("files.example.org", self.host())
-
-    def host(self) -> str:
-        """The name or address of the site, as its configuration has it."""
-        return "localhost"
+        return text.replace("files.example.org", "localhost")
 
     def restart_with(self, more: More) -> None:
         """Starts the server again, with `more` lines in its example's files, and without those of the last time. Each row has a file, a text of it,
@@ -67,14 +78,38 @@ class ServerSite(served.Site):
         """Starts the server again, so that it asks the daemon by TLS on this port of loopback, if it can (`on_port`)."""
         self.restart_replacing([(name, place, lines.replace("{port}", str(port))) for name, place, lines in self.on_port])
 
+    def restart_with_second_site(self) -> None:
+        """Starts the server again, with a second site beside the example's: OTHER, whose folder is `other`, and whose lines are the example's."""
+        self.restart_with([])
+        name, begin = self.begins
+        text = self.text(f"etc/{name}")
+        own = other = text[text.index(begin):]
+        for old, new in [*self.of_second, ("localhost", OTHER), (self.at("files"), self.at("other")), (self.at("run/files"), self.at("run/second"))]:
+            other = other.replace(old, new)
+        self.restart_with([(name, own, other)])
+
+    def start_daemon_with_two_lists(self) -> None:
+        """Starts the daemon again with a list for each host: that of `localhost` is the example's, and by that of OTHER Eve may do everything."""
+        self.cert("entry", "--to", "keys/eve.pub", "--tag", "(files (* set read write) (* prefix /))", "--acl", "etc/other.sexp")
+        config = json.loads(self.text("etc/authd.json"))
+        own = config.pop("list")
+        lists = [{"host": "localhost", "list": own}, {"host": OTHER, "list": self.at("etc/other.sexp")}]
+        self.restart_daemon_with(json.dumps({**config, "lists": lists}))
+
+    def restart_daemon_with(self, config: str) -> None:
+        """Starts the daemon again with the text of a configuration."""
+        self.stop_daemon()
+        self.write("etc/authd.json", config)
+        self.start_daemon()
+
     def restart_replacing(self, changes: list[tuple[str, str, str]]) -> None:
         """Starts the server again, with the files of its example but for these changes: a file, a text of it, and what replaces its first place.
-        `{room}` in both texts is the folder of the site. Raises AssertionError if a file does not have its text."""
+        `{room}` in both texts is the folder of the site, and `{port}` where it listens. Raises AssertionError if a file does not have its text."""
         for name, text in self.originals.items():
             self.write(f"etc/{name}", text)
         self.originals = {name: self.text(f"etc/{name}") for name, _, _ in changes}
         for name, *old_and_new in changes:
-            old, new = (each.replace("{room}", self.room) for each in old_and_new)
+            old, new = (each.replace("{room}", self.room).replace("{port}", str(self.port)) for each in old_and_new)
             text = self.text(f"etc/{name}")
             if old not in text:
                 raise AssertionError(f"{name} has no {old!r}")
@@ -92,6 +127,8 @@ class Nginx(ServerSite):
         "a cache": [("loopback.conf", "http {\n", "proxy_cache_path {room}/tmp/cache keys_zone=site:1m; proxy_cache site; proxy_cache_valid any 1h;"
                      "proxy_cache_key $host; proxy_ignore_headers Cache-Control Expires Set-Cookie Vary X-Accel-Expires;\n")]}
     hole = [("files.conf", "location / {\n", "auth_request off;\n")]
+    both_hosts = [("files.conf", "if ($host != $server_name) {\n        return 421;\n    }\n", "")]
+    begins, of_second = ("files.conf", "\nserver {\n"), [("$spki_root", "{room}/other")]
     on_port = [("files.conf", "server unix:{room}/run/socket;", "server 127.0.0.1:{port};"),
                ("files.conf", "proxy_pass http://spki_authd/;", "proxy_pass https://spki_authd/; proxy_ssl_verify on; proxy_ssl_name spki-authd;"
                 "proxy_ssl_trusted_certificate {room}/etc/authd.crt; proxy_set_header X-Spki-Secret THE-SECRET;")]
@@ -117,18 +154,17 @@ class Caddy(ServerSite):
         "a folder of its own": [("Caddyfile", SITE, "file_server /secret/*\n")], "all files": [("Caddyfile", SITE, "file_server browse\n")],
         "the root of all": [("Caddyfile", SITE, "root * {room}/files\nfile_server\n")]}
     hole = [("Caddyfile", "\troute {\n", "respond *.css 404\n")]
+    writes, begins = False, ("Caddyfile", "https://localhost:")
+    both_hosts = [("Caddyfile", "https://localhost:{port} {", f"https://{OTHER}:{{port}}, https://localhost:{{port}} {{")]
     on_port = [("Caddyfile", "forward_auth unix/{room}/run/socket {\n", "forward_auth https://127.0.0.1:{port} {\ntransport http {\n"
                 "tls_trusted_ca_certs {room}/etc/authd.crt\ntls_server_name spki-authd\n}\n"),
                ("Caddyfile", "header_up -X-Spki-Secret\n\t\t\tcopy_headers", "header_up X-Spki-Secret THE-SECRET\ncopy_headers")]
 
     def replaced(self, text: str) -> str:
-        """The text of a file of the example for this site: Caddy waits 1 s at most for a client, and opens no port besides."""
+        """The text of a file of the example for this site: Caddy waits 1 s at most for a client, and opens its port and no other."""
         text = re.sub("(read_header|read_body|idle) [0-9]+s", r"\1 1s", super().replaced(text))
+        text = text.replace("\nlocalhost {", f"\nhttps://localhost:{self.port} {{").replace("\n:443 {", f"\nhttps://:{self.port} {{")
         return text.replace("{\n\tservers", "{\n\tadmin off\n\tauto_https off\n\tservers", 1)
-
-    def host(self) -> str:
-        """The address of the site, as a Caddyfile names a site."""
-        return f"https://localhost:{self.port}"
 
     def command(self) -> list[str]:
         self.settings.update(HOME=self.at("tmp"), XDG_DATA_HOME=self.at("tmp"), XDG_CONFIG_HOME=self.at("tmp"))  # (it writes files there)
@@ -151,6 +187,10 @@ class HAProxy(ServerSite):
         "a first lock that fails": [("haproxy.cfg", "frontend files\n", "    http-request allow\n")],
         "a Lua that fails": [("spki.lua", "function(txn)\n", "    local nothing = txn.none.nothing\n")]}
     hole = [("haproxy.cfg", "frontend files\n", "    http-request return status 404 if METH_POST\n")]
+    both_hosts = [("haproxy.cfg", "unless { req.fhdr(host),host_only -i localhost }", "if { always_false }")]
+    begins, second_address = ("haproxy.cfg", "frontend files\n"), "127.0.0.2"
+    of_second = [("frontend files", "frontend other"), ("backend files", "backend other"), ("backend spki-authd", "backend spki-authd-of-other"),
+                 ("bind 127.0.0.1", f"bind {second_address}")]
     on_port = [("haproxy.cfg", "global\n", "global\n    httpclient.ssl.verify required\n    httpclient.ssl.ca-file {room}/etc/authd.crt\n"),
                ("spki.lua", 'url = "http://spki-authd/", dst = "unix@{room}/run/socket", timeout = 5000, headers = {\n',
                 'url = "https://spki-authd/", dst = "ipv4@127.0.0.1:{port}", timeout = 5000, headers = { ["x-spki-secret"] = { "THE-SECRET" },\n')]
@@ -160,8 +200,10 @@ class HAProxy(ServerSite):
         super().prepare()
         self.write("etc/server.pem", self.text("etc/server.crt") + self.text("etc/server.key"))
         self.write("etc/sorry.http", f"HTTP/1.1 200 OK\r\nContent-Length: {len(SORRY_TEXT)}\r\nConnection: close\r\n\r\n{SORRY_TEXT}")
-        os.mkdir(self.at("run/files"))
-        self.behind = FileServer(self.at("run/files/socket"), self.at("files"))
+        self.behind = []
+        for name, folder in (("files", "files"), ("second", "other")):
+            os.mkdir(self.at(f"run/{name}"))
+            self.behind.append(FileServer(self.at(f"run/{name}/socket"), self.at(folder)))
 
     def replaced(self, text: str) -> str:
         """The text of a file of the example for this site: HAProxy changes no user, listens on its port, and waits 1 s at most for a client."""
@@ -173,8 +215,9 @@ class HAProxy(ServerSite):
         return ["haproxy", "-db", "-f", self.at("etc/haproxy.cfg")]
 
     def end(self) -> None:
-        self.behind.shutdown()
-        self.behind.server_close()
+        for each in self.behind:
+            each.shutdown()
+            each.server_close()
         super().end()
 
 
@@ -201,10 +244,13 @@ class Apache(ServerSite):
         "a hook of access before": [("spki.lua", LUA, ALLOW), ("main.conf", "# more\n", "LuaHookAccessChecker {room}/etc/spki.lua allow\n")],
         "a script that fails": [("spki.lua", "function decide(r)\n", "    local nothing = r.none.nothing\n")]}
     hole = [("spki.lua", "function decide(r)\n", "    if r.method == 'DELETE' then return apache2.DECLINED end\n")]
+    both_hosts = [("spki.lua", "    if r.hostname ~= SITE then return 421 end\n", "")]
+    begins, of_second = ("files.conf", "<VirtualHost "), [("spki.lua", "other.lua")]
 
     def prepare(self) -> None:
         """Writes what Apache reads: also main.conf, which loads its modules and includes the example. Root gives files to www-data, who serves."""
         super().prepare()
+        self.write("etc/other.lua", self.text("etc/spki.lua").replace("localhost", OTHER))
         modules = "".join(f"LoadModule {name}_module {FOLDER_OF_MODULES}/mod_{name}.so\n" for name in MODULES)
         # (the socket is of root's group, and without a line on its group Apache would go on as root)
         server_user = "User www-data\nGroup root" if os.getuid() == 0 else ""
@@ -213,7 +259,7 @@ class Apache(ServerSite):
                    f"{server_user}\n# more\nInclude etc/files.conf\n")
         if server_user:
             os.chmod(self.room, 0o755)
-            subprocess.run(["chown", "-R", "www-data", self.at("files"), self.at("tmp")], check=True)
+            subprocess.run(["chown", "-R", "www-data", self.at("files"), self.at("other"), self.at("tmp")], check=True)
 
     def replaced(self, text: str) -> str:
         """The text of a file of the example for this site: Apache listens on its port."""
@@ -243,15 +289,16 @@ class FileHandler(Handler):
     """Reads, writes or deletes the file that a request names. So a test sees by the files whether a request came that should have been denied."""
 
     def answer(self, status: int, octets: bytes = b"") -> None:
-        """Sends an answer with a status and a body, but to HEAD no body. Its fields say that a cache may keep it."""
-        self.send_head(status, f"Content-Length: {len(octets)}", "Cache-Control: max-age=60", "Last-Modified: Thu, 01 Jan 2026 00:00:00 GMT")
-        if self.command != "HEAD" and octets:
+        """Sends an answer with a status and a body, but to HEAD and with 304 no body. Its fields say that a cache may keep it."""
+        self.send_head(status, f"Content-Length: {len(octets)}", "Cache-Control: max-age=60", "Surrogate-Control: max-age=60",
+                       "CDN-Cache-Control: max-age=60", "Last-Modified: Thu, 01 Jan 2026 00:00:00 GMT")
+        if self.command != "HEAD" and status != 304 and octets:
             self.wfile.write(octets)
 
     def do_GET(self) -> None:
         try:
             with open(self.file(), "rb") as file:
-                self.answer(200, file.read())
+                self.answer(304 if self.headers["If-None-Match"] else 206 if self.headers["Range"] else 200, file.read())
         except OSError:
             self.answer(404)
 

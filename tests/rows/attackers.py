@@ -27,6 +27,11 @@ ALL_ASKED: list[Asked] = [
     ("eve", "POST", "/web/index.html")]
 ASKED = ALL_ASKED if built.IS_LONG else ALL_ASKED[:5]
 GRANTED: list[Asked] = [("ann", "GET", "/web/index.html"), ("ann", "PUT", "/web/made"), ("ann", "DELETE", "/web/index.html")]
+# What Ann is granted, one after the other: a method, a path, a line of the header, and the status. By PUT she stores MADE.
+PAGE, MADE = "/web/index.html", "/web/made"
+READS = [("GET", PAGE, "A: b", 200), ("HEAD", PAGE, "A: b", 200), ("GET", PAGE, "Range: bytes=0-2", 206), ("GET", PAGE, "If-None-Match: *", 304),
+         ("GET", "/web/none", "A: b", 404)]
+WRITES = [("PUT", MADE, "A: b", 201), ("GET", MADE, "A: b", 200), ("DELETE", MADE, "A: b", 204)]
 # The statuses of a denial, and those where no daemon has decided.
 DENIED, UNDECIDED = {400, 401, 403, 404, 405, 409}, {500, 502, 503}
 
@@ -49,6 +54,29 @@ def faults_of(site: Site, asked: Asked, must: set[int]) -> list[str]:
     answer = site.answer(who, (header + body).encode())
     faults = [f"{who} {method} {path} is {status}" for status in statuses(answer) or [0] if status not in must]
     return faults + [f"{who} {method} {path}: {change}" for change in changes_of(site, answer)]
+
+
+def fields_of_answer(answer: bytes) -> dict[str, str]:
+    """The fields of the first answer in the octets that a connection has received, by their names in small letters. Values of one name are joined by
+    commas."""
+    fields: dict[str, str] = {}
+    for line in answer.partition(b"\r\n\r\n")[0].decode("latin-1").split("\r\n")[1:]:
+        name, _, value = line.partition(":")
+        fields[name.lower()] = ",".join([*filter(None, [fields.get(name.lower())]), value.strip()])
+    return fields
+
+
+def faults_of_fields(answer: bytes, has_clients_files: bool) -> Iterator[str]:
+    """A line for each fault of the fields of an answer that was granted: a cache may keep it for others, a browser may guess its type or, if the site
+    has files that clients write, run scripts in it."""
+    fields = fields_of_answer(answer)
+    directives = fields.get("cache-control", "").replace(" ", "").split(",")
+    yield from (f"a cache is not told {each}" for each in ("private", "no-store") if each not in directives)
+    yield from (f"a cache is told {each}" for each in ("surrogate-control", "cdn-cache-control") if each in fields)
+    if fields.get("x-content-type-options") != "nosniff":
+        yield "a browser may guess its type"
+    if has_clients_files and "sandbox" not in fields.get("content-security-policy", "").split(","):
+        yield "a browser may run its scripts"
 
 
 def statuses(answer: bytes) -> list[int]:

@@ -7,6 +7,8 @@ import re
 from collections.abc import Iterator
 from typing import NamedTuple, Optional
 
+from harness.web_servers import OTHER
+
 # What is tried; by whom (None: without a certificate for TLS; two words: a file of keys/ with the certificate, and the key); and the octets.
 Plain = tuple[str, Optional[str], bytes]
 # The statuses that an answer may have. What is malformed, or too long, the web server may also refuse by itself, or without an answer (0). What is
@@ -197,6 +199,31 @@ def attacks_on_left_certificates() -> Iterator[Plain]:
     yield "certificates that are left in chunks", "ben", raw(
         f"PUT {LEAVING} HTTP/1.1\nHost: localhost\nConnection: close\nTransfer-Encoding: chunked\n\na\n(sequence)\n0\n\n")
     yield "certificates of 9,000 octets", "ben", request(LEAVING, method="PUT", body="(sequence)".ljust(9000))
+
+
+def attacks_by_hosts(port: int) -> Iterator[tuple[str, Optional[str], bytes]]:
+    """Requests to the site `localhost` at a port, by who has a right at the site OTHER alone, most of which name OTHER: what is tried, the name that
+    TLS asks for, None for none, and the octets."""
+    forms: list[tuple[str, str, list[str]]] = [
+        ("this host", PLAN, ["localhost"]), ("the other host", PLAN, [OTHER]), ("with the port", PLAN, [f"{OTHER}:{port}"]),
+        ("with the port of https", PLAN, [f"{OTHER}:443"]), ("in capitals", PLAN, [OTHER.upper()]), ("with a dot", PLAN, [f"{OTHER}."]),
+        ("before this one", PLAN, [OTHER, "localhost"]), ("behind this one", PLAN, ["localhost", OTHER]), ("no host", PLAN, []),
+        ("both in a line", PLAN, [f"localhost, {OTHER}"]), ("this one as a user", PLAN, [f"localhost@{OTHER}"]), ("an empty host", PLAN, [""]),
+        ("in the address", f"https://{OTHER}{PLAN}", ["localhost"]), ("in the address and the header", f"https://{OTHER}{PLAN}", [OTHER]),
+        ("in the address alone", f"https://{OTHER}{PLAN}", []), ("behind the address", f"https://localhost{PLAN}", [OTHER])]
+    for name in ("localhost", OTHER, None):
+        for what, target, hosts in forms:
+            lines = [f"GET {target} HTTP/1.1", *(f"Host: {host}" for host in hosts), "Connection: close", "", ""]
+            yield f"{what}, TLS for {name}", name, "\r\n".join(lines).encode()
+    claims = (f"X-Forwarded-Host: {OTHER}", f"X-Original-Host: {OTHER}", f"Forwarded: host={OTHER}")
+    yield "in the headers of servers", "localhost", request(PLAN, *claims)
+    yield "in HTTP/1.0", "localhost", raw(f"GET https://{OTHER}{PLAN} HTTP/1.0\n\n")
+    yield "to write", "localhost", raw(f"PUT /web/made HTTP/1.1\nHost: {OTHER}\nConnection: close\nContent-Length: 4\n\nmade")
+
+
+# The fields by which a request in HTTP/2 says its host.
+HOSTS_OF_FRAMES = [[(":authority", OTHER)], [(":authority", "localhost")], [(":authority", "localhost"), ("host", OTHER)],
+                   [(":authority", OTHER), ("host", "localhost")], [("host", OTHER)]]
 
 
 def with_statuses(attacks: Iterator[Plain], must: set[int]) -> Iterator[Attack]:

@@ -3,13 +3,14 @@ the daemon spki-authd. A server runs with its example's lines alone, and with li
 these again while the daemon is stopped. A row passes if each status of the answer is allowed, no file's content is sent, and no file is changed.
 
 The gate, `.ci/run`, runs about a tenth of the rows, always the same, and SPKI_TEST_LONG all of them."""
+import contextlib
 import hashlib
 import os
 import re
 import unittest
 from collections.abc import Callable
 
-from harness import built, needs, served, web_servers
+from harness import built, frames, needs, served, web_servers
 from harness.support import output_of, text_of
 from rows import attackers, attacks
 
@@ -74,8 +75,14 @@ class Table(unittest.TestCase):
         os.symlink("../secret", cls.site.at("files/web/link"))
 
     def check_ann(self) -> None:
-        """Ann must get the page that she may read."""
-        self.assertEqual(self.site.status("ann", "GET", "/web/index.html"), 200)
+        """Ann must get the page that she may read, with the fields that keep it from others."""
+        answer = self.site.answer("ann", attacks.request(attacks.WEB))
+        self.assertEqual(attackers.statuses(answer), [200])
+        self.check_fields_of(answer)
+
+    def check_fields_of(self, answer: bytes) -> None:
+        """By its fields an answer to a request that was granted must not be kept by caches, nor run as a script where clients write."""
+        self.assertEqual(list(attackers.faults_of_fields(answer, self.kind.writes)), [], answer)
 
     def check_rows(self, column: str) -> None:
         """Each chosen attack of a column must fail. First Ann must be granted her page. In a stopped column the daemon is stopped then, and a plain
@@ -120,6 +127,65 @@ class Table(unittest.TestCase):
                     self.check_denied([*attackers.ASKED, *attackers.GRANTED], attackers.DENIED | attackers.UNDECIDED)
                 finally:
                     self.site.start_daemon()
+
+    def check_fields(self) -> None:
+        """No cache may keep what Ann is granted: a file, a part of it, that it has not changed, or that it is not there. The server behind HAProxy
+        says that one may. What a client has written, as the page that the robot leaves, runs no script in Ann's browser. No field of a denial says
+        that a cache may keep it."""
+        self.site.restart_with([])
+        written = "/web/out/page.html"
+        if self.kind.writes:
+            self.assertEqual(self.site.status("robot", "PUT", written, body="<script>alert(1)</script>"), 201)
+            self.addCleanup(os.remove, self.site.at(f"files{written}"))
+        rows = [*attackers.READS, ("GET", written, "A: b", 200), *attackers.WRITES] if self.kind.writes else attackers.READS
+        for method, path, line, status in rows:
+            with self.subTest(method=method, path=path, line=line):
+                answer = self.site.answer("ann", attacks.request(path, line, method=method, body="new" if method == "PUT" else ""))
+                self.assertEqual(attackers.statuses(answer), [status])
+                self.check_fields_of(answer)
+                self.assertNotIn("max-age", attackers.fields_of_answer(answer).get("cache-control", ""))
+        denied = attackers.fields_of_answer(self.site.answer("eve", attacks.request(attacks.WEB)))
+        self.assertIn(denied.get("cache-control"), (None, "private, no-store"))
+
+    def check_hosts(self) -> None:
+        """Of two sites that ask one daemon each has its own list. Eve may do everything at the site OTHER and nothing at `localhost`, and gets
+        nothing there by naming OTHER: where the web server has `localhost` alone, also if that takes requests for OTHER, and where it has both."""
+        self.addCleanup(self.site.restart_daemon_with, self.site.text("etc/authd.json"))
+        self.site.start_daemon_with_two_lists()
+        self.site.restart_with([])
+        self.check_names(attacks.MALFORMED)
+        self.site.restart_replacing(self.kind.both_hosts)
+        self.check_names(attacks.MALFORMED)
+        self.site.restart_with_second_site()
+        asked = attacks.request(attacks.PLAN).replace(b"localhost", web_servers.OTHER.encode())
+        answer = self.site.answer("eve", asked, web_servers.OTHER, self.site.second_address)
+        self.assertTrue(answer.endswith(b"other"), answer)
+        self.check_names(attacks.MALFORMED | {200, 201})
+
+    def check_names(self, must: set[int]) -> None:
+        """Eve gets nothing of the site `localhost` by the name OTHER, by HTTP/1.1 nor HTTP/2: each answer has a status of `must`, where 0 stands for
+        none. Ann gets her page by HTTP/2, and by each way to write the name of its site."""
+        for what, name, octets in attacks.attacks_by_hosts(self.site.port):
+            with self.subTest(what):
+                answer = self.site.answer("eve", octets, name)
+                self.assertLessEqual(set(attackers.statuses(answer) or [0]), must, answer)
+                self.assertEqual(list(attackers.changes_of(self.site, answer)), [])
+        for name in ("localhost", web_servers.OTHER, None):
+            for hosts in attacks.HOSTS_OF_FRAMES:
+                with self.subTest(name=name, hosts=hosts):
+                    self.assertEqual(list(attackers.changes_of(self.site, self.body_by_frames("eve", name, attacks.PLAN, *hosts))), [])
+        page = attackers.CONTENTS["web/index.html"]
+        self.assertIn(page, self.body_by_frames("ann", "localhost", attacks.WEB, (":authority", "localhost")))
+        for host in ("LOCALHOST", f"localhost:{self.site.port}"):
+            asked = attacks.request(attacks.WEB).replace(b"localhost", host.encode())
+            self.assertIn(page, self.site.answer("ann", asked))
+
+    def body_by_frames(self, who: str, name: str | None, path: str, *hosts: tuple[str, str]) -> bytes:
+        """The body of the answer by HTTP/2 to a request for a path with these fields. TLS asks for `name` or for none. Empty if there is none."""
+        octets = frames.request((":method", "GET"), (":scheme", "https"), (":path", path), *hosts)
+        with contextlib.suppress(OSError), self.site.connected(who, name, "h2") as client:
+            return frames.body_of_answer(client, octets)
+        return b""
 
     def check_probe(self) -> None:
         """`spki-authd -probe` must find no request that is granted while the daemon runs, nor, with `-stopped`, while it does not. It must find one
@@ -175,6 +241,8 @@ def table_of(kind: type[web_servers.ServerSite]) -> Callable[[type[Table]], type
             setattr(table, f"test_{re.sub('[^a-z]+', '_', column)}", lambda self, column=column: self.check_rows(column))
         setattr(table, "test_other_sites", lambda self: self.check_sites())
         setattr(table, "test_probe", lambda self: self.check_probe())
+        setattr(table, "test_fields", lambda self: self.check_fields())
+        setattr(table, "test_hosts", lambda self: self.check_hosts())
         if kind.on_port:
             setattr(table, "test_port", lambda self: self.check_port())
         return needs.needs(*served.NEEDS, *kind.needs, *needs.LIBRARY)(table)

@@ -19,7 +19,9 @@ from typing import Any
 from harness import needs, served
 from harness.served import Site
 from harness.support import TESTS, output_of, text_of, waits_for
-from rows.attackers import ASKED, DENIED, GRANTED, READ, UNDECIDED, Asked, Attackers, faults_of, in_braces, sequence, statuses
+from harness.web_servers import FileServer
+from rows.attackers import (ASKED, DENIED, GRANTED, READ, UNDECIDED, Asked, Attackers, faults_of, faults_of_fields, fields_of_answer, in_braces,
+                            sequence, statuses)
 from suite.test_authd import asked_by_many
 from suite.test_go import sealed
 from spki_cert_tool.keys import digest_of
@@ -39,8 +41,9 @@ class OfSite(unittest.TestCase):
         cls.addClassCleanup(cls.site.end)
 
     def check_ann(self) -> None:
-        """Ann must get the page that she may read."""
-        self.assertEqual(self.site.status("ann", "GET", "/web/index.html"), 200)
+        """Ann must get the page that she may read, with the fields that keep it from others."""
+        answer = self.site.answer("ann", b"GET /web/index.html HTTP/1.1\r\nHost: localhost\r\nConnection: close\r\n\r\n")
+        self.assertEqual((statuses(answer), list(faults_of_fields(answer, True))), ([200], []))
 
 
 @needs.needs(*served.NEEDS, *needs.LIBRARY)
@@ -139,6 +142,17 @@ class Sites(OfSite):
                 self.check_ann()
                 self.check_denied(ASKED, DENIED)
                 self.check_ann()
+
+    def test_server_behind(self) -> None:
+        """Before a server of one's own, as the page says, nginx replaces what that server tells caches, and hides what it tells those of CDNs."""
+        behind = FileServer(self.site.at("run/behind"), self.site.at("files"))
+        self.addCleanup(behind.server_close)
+        self.addCleanup(behind.shutdown)
+        hidden = "proxy_hide_header Surrogate-Control; proxy_hide_header CDN-Cache-Control;"
+        self.restart_nginx("", f"location /web/ {{ proxy_pass http://unix:{{room}}/run/behind; {hidden} }}")
+        self.check_ann()
+        answer = self.site.answer("ann", b"GET /web/index.html HTTP/1.1\r\nHost: localhost\r\nConnection: close\r\n\r\n")
+        self.assertEqual(fields_of_answer(answer)["cache-control"], "no-cache,private, no-store")
 
     def test_server_side_includes_are_not_run(self) -> None:
         """nginx runs no server-side include (SSI) in a file that Ann writes: by one she could get a file that she may not read."""

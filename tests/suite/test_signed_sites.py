@@ -1,13 +1,16 @@
-"""Tests signed requests to spki-authd behind nginx, Caddy, HAProxy and Apache, most without a certificate of TLS, and git and rsync by a key."""
+"""Tests signed requests to spki-authd behind nginx, Caddy, HAProxy and Apache, most without a certificate of TLS, also with a cache in front of
+nginx, and git and rsync by a key."""
 from __future__ import annotations
 
+import contextlib
+import http.client
 import os
 import subprocess
 import unittest
 
 from harness import needs, web_servers
-from harness.served import EXAMPLE, NEEDS, free_port
-from harness.support import TOP
+from harness.served import EXAMPLE, NEEDS, SECONDS, free_port
+from harness.support import TOP, waits_for
 from rows import attackers, attacks
 
 PAGE = "/web/index.html"
@@ -123,6 +126,56 @@ class Nginx(OfSites):
 
     def test_stores_by_curl(self) -> None:
         self.check_curl()
+
+
+@needs.needs(*NEEDS, "varnishd")
+class Cached(OfSites):
+    """A cache that ends TLS in front of nginx, and passes on signed requests: Varnish with its own rules. nginx listens for it at a Unix socket."""
+
+    kind = web_servers.Nginx
+    PLAIN = [("files.conf", "server_name localhost;\n", "listen unix:{room}/run/plain;\n")]
+    OWN = [("files.conf", "satisfy all;\n", "location /web/out/ {\nadd_header X-Site own;\n}\n")]
+    FORBID = ("    expires -1;\n", '    add_header Cache-Control "private, no-store" always;\n')
+
+    def setUp(self) -> None:
+        """Starts Varnish on the free port `front`."""
+        self.site.restart_with(self.PLAIN)
+        self.front, rules = free_port(), self.site.at("etc/default.vcl")
+        self.site.write("etc/default.vcl", f'vcl 4.1; backend nginx {{ .path = "{self.site.at("run/plain")}"; }}')
+        words = ["varnishd", "-F", "-j", "none", "-n", self.site.at("varnish"), "-f", rules, "-T", "none", "-s", "malloc,9m"]
+        with open(self.site.at("log/varnish"), "wb") as log:
+            varnish = subprocess.Popen([*words, "-a", f"127.0.0.1:{self.front}"], stdin=subprocess.DEVNULL, stdout=log, stderr=log)
+        self.addCleanup(varnish.wait)
+        self.addCleanup(varnish.terminate)
+        waits_for("Varnish listens", self.listens)
+
+    def listens(self) -> bool:
+        """Whether Varnish takes connections."""
+        with contextlib.suppress(OSError):
+            self.asked("/")
+            return True
+        return False
+
+    def asked(self, path: str, *lines: str) -> int:
+        """The status of Varnish's answer to a request with these lines of fields."""
+        with contextlib.closing(http.client.HTTPConnection("127.0.0.1", self.front, timeout=SECONDS)) as client:
+            client.request("GET", path, headers={"Host": "localhost", **dict(line.split(": ", 1) for line in lines)})
+            return client.getresponse().status
+
+    def statuses(self, path: str) -> list[int]:
+        """The statuses of a stranger's request for a path, of Ann's, who signs hers, of a stranger's again, and of Ann's again."""
+        return [self.asked(path), self.asked(path, *self.fields("ann", path)), self.asked(path), self.asked(path, *self.fields("ann", path))]
+
+    def test_cache_in_front(self) -> None:
+        """The cache gives no stranger what it got for Ann: a file, or that there is none. Nor where a location has an `add_header` of its own.
+        It would without the lines that forbid it."""
+        self.assertEqual(self.statuses(PAGE), [401, 200, 401, 200])
+        self.assertEqual(self.statuses("/web/none"), [401, 404, 401, 404])
+        self.site.restart_with([*self.PLAIN, *self.OWN])
+        self.assertEqual(self.statuses("/web/out/main.js"), [401, 200, 401, 200])
+        plain = [(name, place, place + more) for name, place, more in self.PLAIN]
+        self.site.restart_replacing([*plain, *(("files.conf", line, "") for line in self.FORBID)])
+        self.assertEqual(self.statuses("/web/out/main.js"), [401, 200, 200, 200])
 
 
 @needs.needs(*NEEDS, "git")
