@@ -224,6 +224,26 @@ class Requests(unittest.TestCase):
                 verifier.take(proof)
             self.assertEqual(refused.exception.name, wanted)
 
+    def test_only_true_of_a_store_counts(self) -> None:
+        """A store says by `True` that a nonce is new, and by `False` that it was used. Any other answer is a `TypeError`, also one that Python takes
+        for true, and what a store raises is raised. `prove` returns no proof then."""
+        async def later(*words: object) -> bool:
+            return True
+
+        message, now = self.valid_message()
+        words = message.method, message.authority, message.target
+        stores: list[tuple[Callable[..., Any], type[Exception]]] = [
+            (mock.Mock(return_value=False), spki_http.Refused), (mock.Mock(return_value=None), TypeError), (mock.Mock(return_value=1), TypeError),
+            (later, TypeError), (mock.Mock(side_effect=OSError), OSError)]
+        for take, wanted in stores:
+            verifier = spki_http.Verifier("example.com", start=0, now=lambda: now, nonces=mock.Mock(take=take))
+            with warnings.catch_warnings(), self.assertRaises(wanted) as raised:
+                warnings.simplefilter("ignore")
+                verifier.prove(*words, message.fields, message.body)
+            self.assertEqual(getattr(raised.exception, "name", "nonce-seen"), "nonce-seen")
+        verifier.nonces = mock.Mock(take=mock.Mock(return_value=True))
+        self.assertEqual(answer(verifier, message), "valid")
+
     def test_start_by_a_clock_that_was_behind(self) -> None:
         """A service starts while its clock is ten minutes behind, and the clock is put right ten seconds later. What was created before the start by
         the right clock is refused, since a service before this one may have answered it. A row has how many seconds the clock is put forward, 0 if it
