@@ -244,6 +244,17 @@ class Requests(unittest.TestCase):
         verifier.nonces = mock.Mock(take=mock.Mock(return_value=True))
         self.assertEqual(answer(verifier, message), "valid")
 
+    def test_a_clock_that_goes_back_shortens_no_nonce(self) -> None:
+        """Between `check` and `take` the clock goes back or on. The store gets the later moment: a nonce that it kept from the earlier one could be
+        forgotten, and be taken again, while the signature that was accepted is still accepted."""
+        message, now = self.valid_message()
+        for seconds, wanted in ((-200, now), (0, now), (100, now + 100)):
+            clock, store = [now], mock.Mock(take=mock.Mock(return_value=True))
+            verifier = spki_http.Verifier("example.com", start=0, now=lambda: clock[0], nonces=store)
+            proof, clock[0] = verifier.check(message), now + seconds
+            verifier.take(proof)
+            store.take.assert_called_once_with(proof.key, proof.nonce, wanted, 360)
+
     def test_start_by_a_clock_that_was_behind(self) -> None:
         """A service starts while its clock is ten minutes behind, and the clock is put right ten seconds later. What was created before the start by
         the right clock is refused, since a service before this one may have answered it. A row has how many seconds the clock is put forward, 0 if it

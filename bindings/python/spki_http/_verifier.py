@@ -92,13 +92,15 @@ class Memory:
 @dataclass(frozen=True)
 class Proof:
     """The key that has signed a request, in canonical form, and the certificates that the request shows, as a question takes them. `digest` is
-    the algorithm and the octets of its body's digest, or None if none is covered. `expires` is when its signature ends, in seconds since 1970."""
+    the algorithm and the octets of its body's digest, or None if none is covered. `moment` is when the request was proved, and `expires` when its
+    signature ends, in seconds since 1970."""
 
     key: bytes
     sequence: bytes
     nonce: str
     expires: int
     digest: tuple[str, bytes] | None
+    moment: int
 
     def covers(self, body: bytes) -> bool:
         """Whether a body is the signed one, by its digest. If no digest is covered, the empty body alone is."""
@@ -146,7 +148,8 @@ class Verifier:
         """Uses up the nonce of a proof from `check`. NO PROOF COUNTS WITHOUT IT: the caller decides, and calls this for a yes
         alone, before it acts, so that strangers do not fill the store. Raises `Refused`, also if the signature has expired
         since, `TypeError` if the store returns neither `True` nor `False`, and what the store raises."""
-        now = int(self.now())
+        # (where the clock has gone back since, a nonce that is kept from now would be forgotten before the signature has expired)
+        now = max(int(self.now()), proof.moment)
         if proof.expires <= now:
             # (the nonce may have been used, and be forgotten)
             raise Refused("expired")
@@ -167,7 +170,8 @@ class Verifier:
         if not inputs or not signatures:
             raise Refused("malformed")
         signature_input, octets = input_of(inputs[0]), signature_of(signatures[0])
-        self._check_parameters(signature_input)
+        moment = self.now()
+        self._check_parameters(signature_input, moment)
         text, digest = self._check_message(message, signature_input)
         key, algorithm, length = key_of(component_of(message, self.scheme, PUBLIC_KEY))
         if hash_of(key) != signature_input.keyid:
@@ -178,16 +182,17 @@ class Verifier:
             raise Refused("invalid-signature")
         # (the field is covered if it is there, and so it has one line)
         sequences = message.values(self.sequence)
-        proof = Proof(key, sequences[0].encode() if sequences else NOTHING_SHOWN, signature_input.nonce, signature_input.expires, digest)
+        shown = sequences[0].encode() if sequences else NOTHING_SHOWN
+        proof = Proof(key, shown, signature_input.nonce, signature_input.expires, digest, int(moment))
         if message.body is not None and not proof.covers(message.body):
             raise Refused("other-digest")
         return proof
 
-    def _check_parameters(self, signature_input: Input) -> None:
-        """Tests the tag, the length of the nonce, and the times. The signature must not precede the start of the service, neither
-        by the clock as it was set then, nor, if that is known, as it is set now. Raises `Refused` with the name of the first
-        test that fails."""
-        moment, created, expires = self.now(), signature_input.created, signature_input.expires
+    def _check_parameters(self, signature_input: Input, moment: float) -> None:
+        """Tests the tag, the length of the nonce, and the times at `moment`, which `now` has just returned. The signature must
+        not precede the start of the service, neither by the clock as it was set then, nor, if that is known, as it is set now.
+        Raises `Refused` with the name of the first test that fails."""
+        created, expires = signature_input.created, signature_input.expires
         now, start = int(moment), self.start if self.began is None else max(self.start, int(moment - (time.monotonic() - self.began)))
         for is_wrong, name in (
             (signature_input.tag != TAG, "other-tag"),
