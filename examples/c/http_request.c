@@ -643,12 +643,11 @@ bool http_request_read(char *head, struct http_field *fields, size_t most, struc
 }
 
 /* Null if a request proves a key at a time, in seconds since 1970. Otherwise the name of the refusal, or "memory". With null the proof is set, and
- * the nonce of the request is used up. The nonce is taken last, so that only the holder of the key can use it up. It is kept as long as a signature
- * that is accepted now can be accepted. */
-const char *http_request_refusal(const struct http_service *service, const struct http_request *request, long long now, struct http_proof *proof)
+ * the nonce of the request is not used up. */
+const char *http_request_check(const struct http_service *service, const struct http_request *request, long long now, struct http_proof *proof)
 {
     struct input input;
-    struct http_proof checked = {.key_length = 0};
+    struct http_proof checked = {.moment = now};
     unsigned char octets[MOST_INPUT];
     size_t length = 0;
     const char *why = read_signature_fields(request, &input, octets, &length);
@@ -659,10 +658,21 @@ const char *http_request_refusal(const struct http_service *service, const struc
     /* (a request without certificates shows an empty sequence. That its field has only one line is tested with the message) */
     if (count_lines(request, literal(sequence), &checked.sequence) == 0)
         checked.sequence = literal("(sequence)");
+    checked.nonce = input.strings[NONCE];
+    checked.expires = input.expires;
     why = check_message(service, request, &input, (struct spki_text){octets, length}, &checked);
-    if (!why)
-        why = service->take(service->store, (struct spki_text){checked.key, checked.key_length}, input.strings[NONCE], now, MOST_WINDOW + MOST_AHEAD);
     if (!why)
         *proof = checked;
     return why;
+}
+
+/* Uses up the nonce of a proof at a time, in seconds since 1970, or at that of the proof if it is later: if the clock has gone back, a nonce that is
+ * kept from `now` would be forgotten before the signature has ended. Returns null, or the name of the refusal. The nonce is kept as long as a
+ * signature that is accepted now can be accepted. */
+const char *http_proof_take(const struct http_service *service, const struct http_proof *proof, long long now)
+{
+    const long long moment = now < proof->moment ? proof->moment : now;
+    if (proof->expires <= moment)
+        return "expired"; /* (the nonce may have been used, and be forgotten) */
+    return service->take(service->store, (struct spki_text){proof->key, proof->key_length}, proof->nonce, moment, MOST_WINDOW + MOST_AHEAD);
 }
