@@ -224,6 +224,37 @@ class Requests(unittest.TestCase):
                 verifier.take(proof)
             self.assertEqual(refused.exception.name, wanted)
 
+    def test_only_true_of_a_store_counts(self) -> None:
+        """A store says by `True` that a nonce is new, and by `False` that it was used. Any other answer is a `TypeError`, also one that Python takes
+        for true, and what a store raises is raised. `prove` returns no proof then."""
+        async def later(*words: object) -> bool:
+            return True
+
+        message, now = self.valid_message()
+        words = message.method, message.authority, message.target
+        stores: list[tuple[Callable[..., Any], type[Exception]]] = [
+            (mock.Mock(return_value=False), spki_http.Refused), (mock.Mock(return_value=None), TypeError), (mock.Mock(return_value=1), TypeError),
+            (later, TypeError), (mock.Mock(side_effect=OSError), OSError)]
+        for take, wanted in stores:
+            verifier = spki_http.Verifier("example.com", start=0, now=lambda: now, nonces=mock.Mock(take=take))
+            with warnings.catch_warnings(), self.assertRaises(wanted) as raised:
+                warnings.simplefilter("ignore")
+                verifier.prove(*words, message.fields, message.body)
+            self.assertEqual(getattr(raised.exception, "name", "nonce-seen"), "nonce-seen")
+        verifier.nonces = mock.Mock(take=mock.Mock(return_value=True))
+        self.assertEqual(answer(verifier, message), "valid")
+
+    def test_a_clock_that_goes_back_shortens_no_nonce(self) -> None:
+        """Between `check` and `take` the clock goes back or on. The store gets the later moment: a nonce that it kept from the earlier one could be
+        forgotten, and be taken again, while the signature that was accepted is still accepted."""
+        message, now = self.valid_message()
+        for seconds, wanted in ((-200, now), (0, now), (100, now + 100)):
+            clock, store = [now], mock.Mock(take=mock.Mock(return_value=True))
+            verifier = spki_http.Verifier("example.com", start=0, now=lambda: clock[0], nonces=store)
+            proof, clock[0] = verifier.check(message), now + seconds
+            verifier.take(proof)
+            store.take.assert_called_once_with(proof.key, proof.nonce, wanted, 360)
+
     def test_start_by_a_clock_that_was_behind(self) -> None:
         """A service starts while its clock is ten minutes behind, and the clock is put right ten seconds later. What was created before the start by
         the right clock is refused, since a service before this one may have answered it. A row has how many seconds the clock is put forward, 0 if it

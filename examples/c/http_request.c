@@ -642,12 +642,12 @@ bool http_request_read(char *head, struct http_field *fields, size_t most, struc
     return strcmp(head, "\r\n") == 0 && read_field(request, literal("host"), &request->authority) == NULL;
 }
 
-/* Null if a request proves a key at a time, in seconds since 1970. Otherwise the name of the refusal, or "memory". With null the proof is set. The
- * nonce of the request is not used up. */
+/* Null if a request proves a key at a time, in seconds since 1970. Otherwise the name of the refusal, or "memory". With null the proof is set, and
+ * the nonce of the request is not used up. */
 const char *http_request_check(const struct http_service *service, const struct http_request *request, long long now, struct http_proof *proof)
 {
     struct input input;
-    struct http_proof checked = {.key_length = 0, .now = now};
+    struct http_proof checked = {.moment = now};
     unsigned char octets[MOST_INPUT];
     size_t length = 0;
     const char *why = read_signature_fields(request, &input, octets, &length);
@@ -658,20 +658,21 @@ const char *http_request_check(const struct http_service *service, const struct 
     /* (a request without certificates shows an empty sequence. That its field has only one line is tested with the message) */
     if (count_lines(request, literal(sequence), &checked.sequence) == 0)
         checked.sequence = literal("(sequence)");
+    checked.nonce = input.strings[NONCE];
+    checked.expires = input.expires;
     why = check_message(service, request, &input, (struct spki_text){octets, length}, &checked);
-    if (why)
-        return why;
-    /* (check_parameters has tested that the nonce has at most MOST_NONCE octets) */
-    checked.nonce_length = input.strings[NONCE].length;
-    memcpy(checked.nonce, input.strings[NONCE].octets, checked.nonce_length);
-    *proof = checked;
-    return NULL;
+    if (!why)
+        *proof = checked;
+    return why;
 }
 
-/* Uses up the nonce of a proof, for as long as a signature that was accepted at the time of the proof can be accepted. Null, or the name of the
- * refusal. */
-const char *http_proof_take(const struct http_service *service, const struct http_proof *proof)
+/* Uses up the nonce of a proof at a time, in seconds since 1970, or at that of the proof if it is later: if the clock has gone back, a nonce that is
+ * kept from `now` would be forgotten before the signature has ended. Returns null, or the name of the refusal. The nonce is kept as long as a
+ * signature that is accepted now can be accepted. */
+const char *http_proof_take(const struct http_service *service, const struct http_proof *proof, long long now)
 {
-    return service->take(service->store, (struct spki_text){proof->key, proof->key_length}, (struct spki_text){proof->nonce, proof->nonce_length},
-                         proof->now, MOST_WINDOW + MOST_AHEAD);
+    const long long moment = now < proof->moment ? proof->moment : now;
+    if (proof->expires <= moment)
+        return "expired"; /* (the nonce may have been used, and be forgotten) */
+    return service->take(service->store, (struct spki_text){proof->key, proof->key_length}, proof->nonce, moment, MOST_WINDOW + MOST_AHEAD);
 }

@@ -2,10 +2,12 @@
  * http_request.c along with verify.h and one of its verifiers, and http_nonces.c unless it keeps nonces itself.
  *
  *     struct http_service service = {names, 1, time(NULL), http_nonces_take, http_nonces_open(100000)};
- *     const char *refused = http_request_check(&service, &request, time(NULL), &proof);
- *     if (!refused && http_request_decides(&service, guard, &proof, words, 3).status == SPKI_YES)
- *         puts("granted");
- */
+ *     if (http_request_check(&service, &request, now, &proof) != NULL)
+ *         return false;
+ *     question.key = http_proven_key(&proof);
+ *     return verify_decides(guard, &question).status == SPKI_YES && http_proof_take(&service, &proof, now) == NULL;
+ *
+ * The nonce is taken for a yes alone: anybody can make a key, and fill the store by requests that are denied. */
 #ifndef HTTP_REQUEST_H
 #define HTTP_REQUEST_H
 
@@ -38,14 +40,14 @@ struct http_service {
     void *store;
 };
 
-/* The key that has signed a request, in canonical form, the certificates that the request shows, as a question has them, which are lent by the
- * request, its nonce, the time at which it was checked, and the digest of the body by SHA-256 or SHA-512. Its length is 0 if none is signed: then
- * there must be no body. Whoever reads the body compares it. */
+/* The key that has signed a request, in canonical form, the certificates that the request shows, as a question has them, and the nonce, which are
+ * lent by the request, and the digest of the body by SHA-256 or SHA-512. Its length is 0 if none is signed: then there must be no body. Whoever reads
+ * the body compares it. `moment` is when the request was proved, and `expires` when its signature ends, in seconds since 1970. */
 struct http_proof {
-    unsigned char key[VERIFY_MOST_OCTETS], digest[64], nonce[64];
-    size_t key_length, digest_length, nonce_length;
-    struct spki_text sequence;
-    long long now;
+    unsigned char key[VERIFY_MOST_OCTETS], digest[64];
+    size_t key_length, digest_length;
+    struct spki_text sequence, nonce;
+    long long moment, expires;
 };
 
 /* Parses the head of a request of HTTP/1.1, a C string that ends with its empty line. The texts of `request` and `fields` are parts of `head`. In it
@@ -54,35 +56,19 @@ struct http_proof {
 bool http_request_read(char *head, struct http_field *fields, size_t most, struct http_request *request);
 
 /* Null if a request proves a key at a time, in seconds since 1970. Otherwise the name of the refusal in docs/SIGNATURES.md, or "memory". With null
- * the proof is set. The nonce of the request is not used up: http_request_decides does that for a yes alone. Strangers have keys too: if each
- * request that is signed used one up, they would fill the store, and everybody would be refused. */
+ * the proof is set. Its nonce is not used up: a decision and http_proof_take must follow. */
 SPKI_RESULT const char *http_request_check(const struct http_service *service, const struct http_request *request, long long now,
                                            struct http_proof *proof);
 
-/* Uses up the nonce of a proof, at the time of the proof, for a service that decides otherwise than by http_request_decides: after a yes, and before
- * it acts. Null, or the name of the refusal: then nothing is granted. */
-SPKI_RESULT const char *http_proof_take(const struct http_service *service, const struct http_proof *proof);
+/* Uses up the nonce of a proof at a time, in seconds since 1970, which counts as that of the proof if it is earlier. NO PROOF COUNTS WITHOUT IT:
+ * decide first, and call this for a yes alone, before you act. Returns null, or the name of the refusal: that of `take`, or "expired" if the
+ * signature has ended since. */
+SPKI_RESULT const char *http_proof_take(const struct http_service *service, const struct http_proof *proof, long long now);
 
 /* The key of a proof, for a question: its octets are in the proof. */
 static inline struct spki_proven_key http_proven_key(const struct http_proof *proof)
 {
     return spki_assume_key((struct spki_text){proof->key, proof->key_length});
-}
-
-/* The decision of a guard on a request that was checked: whether its key may do what the strings `words` say, of which there must be one at least, by
- * its certificates and at its time. Verifies the certificates' signatures, decides, and only for a yes uses up the nonce. If that is refused, since
- * the request came before, say, the decision is a no. */
-SPKI_RESULT static inline struct spki_decision http_request_decides(const struct http_service *service, const spki_guard *guard,
-                                                                    const struct http_proof *proof, const struct spki_text *words,
-                                                                    size_t word_count)
-{
-    const int64_t seconds = proof->now;
-    const struct spki_question question = {.size = sizeof question, .sequence = proof->sequence, .key = http_proven_key(proof), .words = words,
-                                           .word_count = word_count, .seconds = &seconds};
-    const struct spki_decision decision = verify_decides(guard, &question);
-    if (decision.status == SPKI_YES && http_proof_take(service, proof) != NULL)
-        return (struct spki_decision){SPKI_NO, INT64_MIN};
-    return decision;
 }
 
 /* Nonces in memory, as hashes of eight octets: room for `most` in each of two sets. Null if `most` is 0 or too large, or there is no memory or no

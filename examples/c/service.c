@@ -18,13 +18,17 @@ static bool is_granted(const spki_guard *guard, const struct http_service *servi
     struct http_field fields[MOST_FIELDS];
     struct http_request request;
     struct http_proof proof;
-    if (!http_request_read(head, fields, MOST_FIELDS, &request) || http_request_check(service, &request, time(NULL), &proof) != NULL)
+    const int64_t now = time(NULL);
+    if (!http_request_read(head, fields, MOST_FIELDS, &request) || http_request_check(service, &request, now, &proof) != NULL)
         return false;
     const char *path = request.target.octets;
     if (strcmp(request.method.octets, "GET") != 0 || strpbrk(path, "%?") || strstr(path, "//") || strstr(path, "/."))
         return false;
     const struct spki_text words[] = {SPKI_LITERAL("packages"), SPKI_LITERAL("read"), request.target};
-    return http_request_decides(service, guard, &proof, words, 3).status == SPKI_YES;
+    const struct spki_question question = {.size = sizeof question, .sequence = proof.sequence, .key = http_proven_key(&proof), .words = words,
+                                           .word_count = 3, .seconds = &now};
+    /* (the nonce is taken only for a yes: strangers could fill the store of nonces) */
+    return verify_decides(guard, &question).status == SPKI_YES && http_proof_take(service, &proof, now) == NULL;
 }
 
 /* Reads until the empty line that ends a head, or until the stream ends, fails, times out or fills the buffer. `head` is a C string then. */

@@ -357,6 +357,36 @@ func TestTakeOfUsedNonce(t *testing.T) {
 	}
 }
 
+// A recorder is a store that takes each nonce. It has the second of the last one.
+type recorder struct{ now int64 }
+
+func (r *recorder) Take(key []byte, nonce string, now, seconds int64) error {
+	r.now = now
+	return nil
+}
+
+// TestClockThatGoesBackShortensNoNonce has the clock go back or on between Check and Take. The store gets the later moment: a nonce that it kept from
+// the earlier one could be forgotten, and be taken again, while the signature that was accepted is still accepted.
+func TestClockThatGoesBackShortensNoNonce(t *testing.T) {
+	created, store := time.Now().Unix(), &recorder{}
+	verifier, message := NewVerifier("example.com"), Message{Method: "GET", Authority: "example.com", Target: "/", Header: http.Header{}}
+	verifier.Nonces = store
+	if err := signers(t)[Ed25519].Sign("https", message); err != nil {
+		t.Fatal(err)
+	}
+	for _, row := range []struct{ later, wanted int64 }{{-200, 0}, {0, 0}, {100, 100}} {
+		verifier.Now = func() time.Time { return time.Unix(created, 0) }
+		proof, err := verifier.Check(message)
+		if err != nil {
+			t.Fatal(err)
+		}
+		verifier.Now = func() time.Time { return time.Unix(created+row.later, 0) }
+		if err := verifier.Take(proof); err != nil || store.now != created+row.wanted {
+			t.Errorf("%+v: %d, %v", row, store.now-created, err)
+		}
+	}
+}
+
 // putForward returns a moment as Go has it after the system's clock was put forward by some seconds, as by `date -s`: the reading of the monotonic
 // clock stays. (The first field of such a Time has 30 bits for the nanoseconds of the system's clock, and above these its seconds.)
 func putForward(moment time.Time, seconds uint64) time.Time {

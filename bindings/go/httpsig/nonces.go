@@ -7,7 +7,8 @@ import (
 	"sync"
 )
 
-// Nonces keeps which nonces were used. Several services may share one.
+// Nonces keeps which nonces were used. Several services may share one, also in several processes: then Take must be one step of the store, and not a
+// look and a write.
 type Nonces interface {
 	// Take returns nil if this nonce of this key was not used before, and keeps it for `seconds` from `now`, which is in seconds since 1970. If it
 	// was used, it returns NonceSeen. Any other error does not say whether it was, and the request proves no key either.

@@ -61,9 +61,9 @@ type Proof struct {
 	Sequence []byte
 	// What Take uses up.
 	nonce string
-	// The second since 1970 from which the signature is not accepted, and what Body compares a body with.
-	expires int64
-	digest  digest
+	// The second since 1970 at which the request was proved, that from which its signature is not accepted, and what Body compares a body with.
+	moment, expires int64
+	digest          digest
 }
 
 // Hash returns the SHA-256 digest of the key, in hexadecimal digits: the `keyid` of the request.
@@ -95,13 +95,15 @@ func (p *Proof) Body(from io.Reader, most int64) ([]byte, error) {
 	return body, nil
 }
 
-// Request returns the proof of a request to a server of net/http, and uses up its nonce. The body stays unread: Proof.Body reads it. The error is
-// a Refusal, or one of Nonces.
+// Request returns the proof of a request to a server of net/http, as Message does. The body stays unread: Proof.Body reads it. The error is a
+// Refusal, or one of Nonces.
 func (v *Verifier) Request(request *http.Request) (*Proof, error) {
 	return v.Message(MessageOf(request))
 }
 
-// Message returns the proof of a message, and uses up its nonce. The error is a Refusal, or one of Nonces: then the message proves no key.
+// Message returns the proof of a message, whose nonce it uses up before anything is decided: ANYBODY CAN MAKE A KEY, and fill the store so that each
+// request is refused. A service that denies some keys calls Check, decides, and calls Take for a yes. The error is a Refusal, or one of Nonces: then
+// the message proves no key.
 func (v *Verifier) Message(message Message) (*Proof, error) {
 	proof, err := v.Check(message)
 	if err == nil {
@@ -114,10 +116,14 @@ func (v *Verifier) Message(message Message) (*Proof, error) {
 }
 
 // Take uses up the nonce of a proof that Check has returned. The error is that of Nonces, such as NonceSeen or StoreFull, or Expired if the signature
-// has expired since. NO PROOF COUNTS WITHOUT IT: a caller of Check takes the nonce before it acts. It may decide before that, so that strangers do
+// has expired since. NO PROOF COUNTS WITHOUT IT: a caller of Check decides, and takes the nonce for a yes alone, before it acts, so that strangers do
 // not fill the store.
 func (v *Verifier) Take(proof *Proof) error {
 	now := v.Now().Unix()
+	if now < proof.moment {
+		// (the clock has gone back: a nonce that is kept from now would be forgotten before the signature has expired)
+		now = proof.moment
+	}
 	if proof.expires <= now {
 		// (the nonce may have been used, and be forgotten)
 		return Expired
@@ -126,13 +132,14 @@ func (v *Verifier) Take(proof *Proof) error {
 	return v.Nonces.Take([]byte(proof.Key.Text()), proof.nonce, now, mostWindow+mostAhead)
 }
 
-// Check returns the proof of a message, or a Refusal. It does not use up the nonce: Take must follow.
+// Check returns the proof of a message, or a Refusal. It does not use up the nonce: a decision and Take must follow.
 func (v *Verifier) Check(message Message) (*Proof, error) {
 	input, octets, err := signatureOf(message.Header)
 	if err != nil {
 		return nil, err
 	}
-	if err := v.checkParameters(input); err != nil {
+	now := v.Now()
+	if err := v.checkParameters(input, now); err != nil {
 		return nil, err
 	}
 	text, digest, err := v.checkMessage(message, input)
@@ -153,7 +160,7 @@ func (v *Verifier) Check(message Message) (*Proof, error) {
 	if digest.octets != nil && message.Body != nil && !digest.matches(message.Body) {
 		return nil, OtherDigest
 	}
-	return &Proof{proven, v.sequenceOf(message.Header), input.nonce, input.expires, digest}, nil
+	return &Proof{proven, v.sequenceOf(message.Header), input.nonce, now.Unix(), input.expires, digest}, nil
 }
 
 // signerOf returns the key of a request in canonical form, and how many octets a signature by it has. The error is a Refusal, also if `keyid` or
@@ -203,10 +210,9 @@ func signatureOf(header http.Header) (*input, []byte, error) {
 	return input, octets, err
 }
 
-// checkParameters returns the refusal of the tag, of the length of the nonce or of the times, or nil. Unless v.Start is zero, the signature must not
-// precede the start of the service, neither by the clock as it was set then, nor as it is set now.
-func (v *Verifier) checkParameters(input *input) error {
-	moment := v.Now()
+// checkParameters returns the refusal of the tag, of the length of the nonce or of the times at a moment, or nil. Unless v.Start is zero, the
+// signature must not precede the start of the service, neither by the clock as it was set then, nor as it is set now.
+func (v *Verifier) checkParameters(input *input, moment time.Time) error {
 	now := moment.Unix()
 	switch {
 	case input.tag != tag:

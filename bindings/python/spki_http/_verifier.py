@@ -36,12 +36,22 @@ def usual_verify() -> Callable[[Signed], bool]:
     return spki_verify.verify
 
 
-class Nonces(Protocol):
-    """Keeps which nonces were used. Several verifiers may share one."""
+def truth_of(answer: bool, name: str) -> bool:
+    """The answer of what has this name. Raises `TypeError` if it is neither `True` nor `False`: a coroutine would count as true."""
+    if answer is not True and answer is not False:
+        raise TypeError(f"{name} returns True or False, and not a value of {type(answer).__name__}")
+    return answer
 
-    def take(self, key: bytes, nonce: str, now: int, seconds: int) -> None:
-        """Keeps a nonce of a key for at least `seconds` from `now`, which is in seconds since 1970. Raises `Refused` if it was
-        used before, if there is no room, or if it may be forgotten, since the clock has gone back."""
+
+class Nonces(Protocol):
+    """Keeps which nonces were used. Several verifiers may share one, also in several processes: then `take` must be one step of the store, as `SET`
+    with `NX` of Redis, and not a look and a write."""
+
+    def take(self, key: bytes, nonce: str, now: int, seconds: int) -> bool:
+        """Keeps a nonce of a key for at least `seconds` from `now`, which is in seconds since 1970. Returns `True` if it keeps it now and did not
+        before: only then the request counts. `False` is `nonce-seen`, and any other value, such as the coroutine of an `async` function, is a
+        `TypeError` of the verifier. Raises `Refused` for a reason of its own: if there is no room, or if the nonce may be forgotten, since the clock
+        has gone back."""
 
 
 class Memory:
@@ -56,8 +66,8 @@ class Memory:
         self.old: set[bytes] = set()
         self.young: set[bytes] = set()
 
-    def take(self, key: bytes, nonce: str, now: int, seconds: int) -> None:
-        """Keeps a nonce of a key for at least `seconds`, the same in each call, from `now`, which is in seconds since 1970.
+    def take(self, key: bytes, nonce: str, now: int, seconds: int) -> bool:
+        """Keeps a nonce of a key for at least `seconds`, the same in each call, from `now`, which is in seconds since 1970, and returns `True`.
         Raises `Refused` if it was used before, or if the young set is full: nothing is forgotten early. If the clock has gone
         back to over a second before the young set began, each nonce is refused as `before-start`, since it may be forgotten."""
         # (the octet 0 separates key and nonce: a nonce has none. 16 octets of the digest are enough)
@@ -76,18 +86,21 @@ class Memory:
             if len(self.young) >= self.most:
                 raise Refused("store-full")
             self.young.add(digest)
+            return True
 
 
 @dataclass(frozen=True)
 class Proof:
-    """The key that has signed a request, in canonical form, and the certificates that the request shows, as a question takes them. `expires` is
-    when its signature ends, in seconds since 1970. `digest` is the algorithm and the octets of its body's digest, or None if none is covered."""
+    """The key that has signed a request, in canonical form, and the certificates that the request shows, as a question takes them. `digest` is
+    the algorithm and the octets of its body's digest, or None if none is covered. `moment` is when the request was proved, and `expires` when its
+    signature ends, in seconds since 1970."""
 
     key: bytes
     sequence: bytes
     nonce: str
     expires: int
     digest: tuple[str, bytes] | None
+    moment: int
 
     def covers(self, body: bytes) -> bool:
         """Whether a body is the signed one, by its digest. If no digest is covered, the empty body alone is."""
@@ -123,25 +136,30 @@ class Verifier:
         self.start = int(now() if start is None else start)
 
     def prove(self, method: str, authority: str, target: str, fields: Iterable[tuple[str, str]], body: bytes | None = None) -> Proof:
-        """The proof of a request, whose nonce is used up. `authority` is the value of Host, `target` the path with the query, and `fields` has
-        pairs of name and value. Raises what `check` and `take` raise. If `body` is None, the caller must test the body later by `Proof.covers`."""
+        """The proof of a request, whose nonce is used up before anything is decided: ANYBODY CAN MAKE A KEY, and fill the store so that each request
+        is refused. A service that denies some keys calls `check`, decides, and calls `take` for a yes. `authority` is the value of Host, `target`
+        the path with the query, and `fields` has pairs of name and value. Raises what `check` and `take` raise. If `body` is None, the caller must
+        test the body later by `Proof.covers`."""
         proof = self.check(Message(method, authority, target, fields, body))
         self.take(proof)
         return proof
 
     def take(self, proof: Proof) -> None:
-        """Uses up the nonce of a proof from `check`. NO PROOF COUNTS WITHOUT IT, but the caller may decide before that,
-        so that strangers do not fill the store. Raises `Refused`, also if the signature has expired since."""
-        now = int(self.now())
+        """Uses up the nonce of a proof from `check`. NO PROOF COUNTS WITHOUT IT: the caller decides, and calls this for a yes
+        alone, before it acts, so that strangers do not fill the store. Raises `Refused`, also if the signature has expired
+        since, `TypeError` if the store returns neither `True` nor `False`, and what the store raises."""
+        # (where the clock has gone back since, a nonce that is kept from now would be forgotten before the signature has expired)
+        now = max(int(self.now()), proof.moment)
         if proof.expires <= now:
             # (the nonce may have been used, and be forgotten)
             raise Refused("expired")
         # (a signature by a clock that is ahead is accepted for as long as both together)
-        self.nonces.take(proof.key, proof.nonce, now, MOST_WINDOW + MOST_AHEAD)
+        if not truth_of(self.nonces.take(proof.key, proof.nonce, now, MOST_WINDOW + MOST_AHEAD), "a store of nonces"):
+            raise Refused("nonce-seen")
 
     def check(self, message: Message) -> Proof:
-        """The proof of a request, whose nonce is not used up: `take` must follow. Raises `Refused`, and `TypeError` if
-        `verify` returns neither `True` nor `False`."""
+        """The proof of a request, whose nonce is not used up: a decision and `take` must follow. Raises `Refused`, and
+        `TypeError` if `verify` returns neither `True` nor `False`."""
         # (the fields may be an iterator, which can be read once)
         message = replace(message, fields=[*message.fields])
         inputs, signatures = message.values("signature-input"), message.values("signature")
@@ -152,35 +170,29 @@ class Verifier:
         if not inputs or not signatures:
             raise Refused("malformed")
         signature_input, octets = input_of(inputs[0]), signature_of(signatures[0])
-        self._check_parameters(signature_input)
+        moment = self.now()
+        self._check_parameters(signature_input, moment)
         text, digest = self._check_message(message, signature_input)
         key, algorithm, length = key_of(component_of(message, self.scheme, PUBLIC_KEY))
         if hash_of(key) != signature_input.keyid:
             raise Refused("other-key")
         if algorithm != signature_input.alg:
             raise Refused("other-algorithm")
-        if len(octets) != length or not self._is_valid(Signed(key, text, value_of(algorithm, octets))):
+        if len(octets) != length or not truth_of(self.verify(Signed(key, text, value_of(algorithm, octets))), "a verifier"):
             raise Refused("invalid-signature")
         # (the field is covered if it is there, and so it has one line)
         sequences = message.values(self.sequence)
-        proof = Proof(key, sequences[0].encode() if sequences else NOTHING_SHOWN, signature_input.nonce, signature_input.expires, digest)
+        shown = sequences[0].encode() if sequences else NOTHING_SHOWN
+        proof = Proof(key, shown, signature_input.nonce, signature_input.expires, digest, int(moment))
         if message.body is not None and not proof.covers(message.body):
             raise Refused("other-digest")
         return proof
 
-    def _is_valid(self, signature: Signed) -> bool:
-        """Whether `verify` says that a signature is valid. Raises `TypeError` if it returns neither `True` nor `False`:
-        a coroutine would count as true."""
-        answer = self.verify(signature)
-        if answer is not True and answer is not False:
-            raise TypeError(f"a signature is valid by True or not by False, and not by {type(answer).__name__}")
-        return answer
-
-    def _check_parameters(self, signature_input: Input) -> None:
-        """Tests the tag, the length of the nonce, and the times. The signature must not precede the start of the service, neither
-        by the clock as it was set then, nor, if that is known, as it is set now. Raises `Refused` with the name of the first
-        test that fails."""
-        moment, created, expires = self.now(), signature_input.created, signature_input.expires
+    def _check_parameters(self, signature_input: Input, moment: float) -> None:
+        """Tests the tag, the length of the nonce, and the times at `moment`, which `now` has just returned. The signature must
+        not precede the start of the service, neither by the clock as it was set then, nor, if that is known, as it is set now.
+        Raises `Refused` with the name of the first test that fails."""
+        created, expires = signature_input.created, signature_input.expires
         now, start = int(moment), self.start if self.began is None else max(self.start, int(moment - (time.monotonic() - self.began)))
         for is_wrong, name in (
             (signature_input.tag != TAG, "other-tag"),

@@ -2,17 +2,29 @@
 //!
 //! ```
 //! use spki::http::{Message, Nonces, Requests};
-//! use spki::Signature;
+//! use spki::{Guard, Limits, Policy, Question, Request, Signature};
+//! use std::time::{SystemTime, UNIX_EPOCH};
 //!
-//! // Name a function of your crypto library here, as `openssl::sha::sha256`. This stand-in is no hash: with it no request of a client is proved.
+//! /// `Some` if the key that has signed a request may make it.
+//! fn grant(guard: &Guard, requests: &Requests, message: &Message, words: &[&[u8]]) -> Option<()> {
+//!     // Call your crypto library here.
+//!     let verify = |_signature: Signature| false;
+//!     let moment = SystemTime::now();
+//!     let now = moment.duration_since(UNIX_EPOCH).ok()?.as_secs();
+//!     let proof = requests.check(message, now, verify).ok()?;
+//!     let question = Question::new(&proof.sequence, &proof.key, Request::Words(words), moment);
+//!     guard.decide(&question, verify).ok()?;
+//!     requests.take(&proof, now).ok() // (for a yes alone: anybody can make a key, and would fill the store of nonces)
+//! }
+//!
+//! // Name a function of the same library here, as `openssl::sha::sha256`. This stand-in is no hash: with it no request of a client is proved.
 //! let sha256 = |_: &[u8]| [0; 32];
 //! let requests = Requests::new(&["files.example.org"], Nonces::new(100_000), 1_792_000_000, sha256);
+//! let guard = Guard::read(b"(acl)", Policy::Strict, Limits::default())?;
 //! let fields: &[(&str, &[u8])] = &[("Host", b"files.example.org")];
 //! let message = Message::new("GET", "files.example.org", "/web/index.html", fields);
-//! // Call the same library here: it is the verifier that a guard asks, too.
-//! let verify = |_signature: Signature| false;
-//! let proof = requests.prove(&message, 1_792_000_100, verify);
-//! assert_eq!(proof.unwrap_err().name(), "absent");
+//! assert!(grant(&guard, &requests, &message, &[b"read", b"/web/index.html"]).is_none());
+//! # Ok::<(), Box<dyn std::error::Error>>(())
 //! ```
 
 mod fields;
@@ -60,7 +72,8 @@ pub struct Proof {
     /// The digest of the body, if one is covered: whoever reads the body compares it. With `None` the request must have no body.
     pub digest: Option<ContentDigest>,
     nonce: String,
-    /// The second since 1970 from which the signature is not accepted.
+    /// The second since 1970 at which the request was proved, and that from which its signature is not accepted.
+    moment: u64,
     expires: u64,
 }
 
@@ -87,7 +100,8 @@ impl<N: TakeNonce> Requests<N> {
         }
     }
 
-    /// The proof of a request at a time, in seconds since 1970. Its nonce is used up.
+    /// The proof of a request at a time, in seconds since 1970. Its nonce is used up before anything is decided: ANYBODY CAN MAKE A KEY, and fill the
+    /// store so that each request is refused. A service that denies some keys calls `check`, decides, and calls `take` for a yes.
     ///
     /// # Errors
     /// If the request proves no key, or the verifier fails.
@@ -101,12 +115,14 @@ impl<N: TakeNonce> Requests<N> {
         Ok(proof)
     }
 
-    /// Uses up the nonce of a proof at a time, in seconds since 1970. NO PROOF COUNTS WITHOUT IT: `check` leaves that to its caller, who may decide
-    /// first. The nonce is kept for as long as its signature may be accepted.
+    /// Uses up the nonce of a proof at a time, in seconds since 1970, which counts as that of `check` if it is earlier. NO PROOF COUNTS WITHOUT IT:
+    /// the caller of `check` decides, and calls this for a yes alone, before it acts, so that strangers do not fill the store. The nonce is kept for
+    /// as long as its signature may be accepted.
     ///
     /// # Errors
     /// If the nonce was used before, there is no room for it, it may be forgotten, since the clock has gone back, or the signature has expired since.
     pub fn take(&self, proof: &Proof, now: u64) -> Result<(), Unproved> {
+        let now = now.max(proof.moment);
         if proof.expires <= now {
             // (the nonce may have been used, and be forgotten)
             return Err(Unproved::Expired);
@@ -117,7 +133,7 @@ impl<N: TakeNonce> Requests<N> {
             .take(proof.key.text(), &proof.nonce, now, seconds)
     }
 
-    /// The proof of a request at `now`, in seconds since 1970. Its nonce is not yet used up: `take` must follow.
+    /// The proof of a request at `now`, in seconds since 1970. Its nonce is not yet used up: a decision and `take` must follow.
     ///
     /// # Errors
     /// If the request proves no key, or the verifier fails.
@@ -145,6 +161,7 @@ impl<N: TakeNonce> Requests<N> {
                 sequence: Self::sequence_of(message),
                 digest,
                 nonce: input.nonce.to_string(),
+                moment: now,
                 expires: input.expires,
             }),
             Err(NotProved::No) => Err(Unproved::InvalidSignature),

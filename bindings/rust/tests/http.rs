@@ -323,6 +323,35 @@ fn a_nonce_is_not_taken_late() {
     }
 }
 
+/// A store that takes each nonce, and notes the second of the last one.
+struct Recorder(std::cell::Cell<u64>);
+
+impl TakeNonce for &Recorder {
+    fn take(&self, _key: &[u8], _nonce: &str, now: u64, _seconds: u64) -> Result<(), Unproved> {
+        self.0.set(now);
+        Ok(())
+    }
+}
+
+/// A clock goes back or on between `check` and `take`. The store gets the later moment: a nonce that it kept from the earlier one could be forgotten,
+/// and be taken again, while the signature that was accepted is still accepted.
+#[test]
+fn a_clock_that_goes_back_shortens_no_nonce() {
+    let rows = rows();
+    let row = rows.iter().find(|row| row.gives == "valid").expect("one");
+    let (now, fields) = (row.now(), row.fields());
+    let message = row.message(&fields);
+    for (later, wanted) in [(now - 200, now), (now, now), (now + 100, now + 100)] {
+        let store = Recorder(0.into());
+        let requests = Requests::new(&["example.com"], &store, START, sha256);
+        let proof = requests
+            .check(&message, now, |signed: Signature| Openssl.verify(signed))
+            .expect("it is valid");
+        assert_eq!(requests.take(&proof, later), Ok(()));
+        assert_eq!(store.0.get(), wanted);
+    }
+}
+
 /// With an error of the verifier it is not known whether the signature is valid, so nothing is proved. The first row is valid otherwise.
 #[test]
 fn a_verifier_that_fails_proves_nothing() {

@@ -6,7 +6,7 @@ use std::collections::HashSet;
 use std::hash::BuildHasher;
 use std::sync::{Mutex, PoisonError};
 
-/// Keeps which nonces were used.
+/// Keeps which nonces were used. Several processes may share a store if `take` is one step of it, and not a look and a write.
 pub trait TakeNonce {
     /// Keeps a nonce of a key for at least so many seconds from `now`, the time in seconds since 1970.
     ///
