@@ -133,13 +133,18 @@ func newStore(options *storeSettings, reader reader, open func(list []byte) (*gu
 		kept: newKeptLists(*options.CacheMiB << 20), unpolled: map[digest]storeState{}, ended: map[digest]struct{}{}, fault: errNever}, nil
 }
 
-// list returns a list of the entries that a question can need: one that is kept, or a new one. The caller closes its guard if it isPassing. It fails as
-// keyOf and read do, and if the store is stale before the entries are read or afterwards.
+// list returns a list of the entries that a question can need: that of listFor for its key. It fails as keyOf and listFor do.
 func (s *store) list(question *guard.Question) (*list, error) {
 	key, err := s.keyOf(question)
 	if err != nil {
 		return nil, err
 	}
+	return s.listFor(key)
+}
+
+// listFor returns a list of the entries for a key in canonical form: one that is kept, or a new one. The caller closes its guard if it isPassing. It
+// fails as read does, and if the store is stale before the entries are read or afterwards.
+func (s *store) listFor(key []byte) (*list, error) {
 	if err := s.checkFresh(); err != nil {
 		return nil, err
 	}
@@ -181,21 +186,13 @@ func (s *store) keyOf(question *guard.Question) ([]byte, error) {
 	return []byte(first), nil
 }
 
-// firstKeyIn returns the key by which the first listed signature of a question is made, or an empty text if none is listed. It fails with the library's
-// refusal, or with errBusy.
-func (s *store) firstKeyIn(question *guard.Question) (first string, err error) {
+// firstKeyIn is firstKeyIn by the guard without entries. It also fails with errBusy.
+func (s *store) firstKeyIn(question *guard.Question) (string, error) {
 	if err := library.enter(); err != nil {
 		return "", err
 	}
 	defer library.leave()
-	opened, err := s.empty.Ask(*question)
-	if err != nil {
-		return "", err
-	}
-	defer opened.Close()
-	// (with false Each ends after the first)
-	err = opened.Each(func(_ int, signature guard.Signature) bool { first = string(signature.Key); return false })
-	return first, err
+	return firstKeyIn(s.empty, question)
 }
 
 // read reads the entries for a key from the database, and returns the list of them. `keyDigest` is the key's digest. The list is kept if it is not

@@ -99,7 +99,7 @@ func openReader(options *storeSettings, patience time.Duration) (reader, error) 
 		askAllEnded: "SELECT " + stateColumns + ", " + microseconds + ", e.certificate FROM " + stateTables + lastChange +
 			" LEFT JOIN @.ended e ON true",
 		askChains: "SELECT text, (extract(epoch FROM until) * 1000000)::bigint FROM @.chains WHERE key = $1 ORDER BY until, digest",
-		askKeep:   "SELECT @.keep($1, $2, $3, $4, $5)",
+		askKeep:   "SELECT @.keep($1, $2, $3, $4, $5, $6)",
 	} {
 		// (`@` is the schema, whose name was checked. It is in quotes, since it may be a reserved word of SQL such as user)
 		opened.texts[ask] = strings.ReplaceAll(text, "@", pq.QuoteIdentifier(options.Schema))
@@ -351,6 +351,6 @@ func (p *pool) keep(key digest, chain keptChain, limits *chains) (reply answer, 
 	err = p.ask(askKeep, func(row []driver.Value) error {
 		reply = answer(fmt.Sprint(row[0]))
 		return nil
-	}, key[:], []byte(chain.text), chain.until, int64(limits.Each), int64(limits.Keys))
+	}, key[:], []byte(chain.text), chain.until, int64(limits.Each), int64(limits.Keys), chain.isNamed)
 	return reply, err
 }

@@ -113,7 +113,7 @@ func (t *table) chains(key digest) ([]keptChain, error) {
 	return t.kept[key], t.fault
 }
 
-// keep keeps each sequence in `kept`, which must not be nil, whatever the limits are, unless the table has a fault. It returns keepAnswer, or `kept`
+// keep keeps each sequence, as it is given, in `kept`, which must not be nil, whatever the limits are, unless the table has a fault. It returns keepAnswer, or `kept`
 // if that is empty.
 func (t *table) keep(key digest, chain keptChain, limits *chains) (answer, error) {
 	if t.fault == nil {
@@ -410,6 +410,34 @@ func TestStoredChains(t *testing.T) {
 	}
 	if chains, err := other.currentOf(bobsKey, s.now().AddDate(1, 0, 0)); err != nil || chains != nil {
 		t.Errorf("a year later: %v %v", chains, err)
+	}
+}
+
+// TestNamesInStore leaves certificates in a store: that by Alice, who has an entry in the list, is named, and that by Mallory is not. Where the entries
+// cannot be read, the answer is `failed`, and so it is from a list in a store for a kept one.
+func TestNamesInStore(t *testing.T) {
+	s := newStoredWithChains(t)
+	stranger, shown := s.strangersSequence(t)
+	s.expectLeft(t, "by Alice", answerKept)
+	if _, reply := s.leaveAs(t, stranger, shown); reply != answerKept {
+		t.Error(reply)
+	}
+	for name, row := range map[string]struct {
+		who    person
+		wanted bool
+	}{"by Alice": {s.bob, true}, "by Mallory": {stranger, false}} {
+		if chains := s.table.kept[digestIn(hexDigest([]byte(row.who.key)))]; len(chains) != 1 || chains[0].isNamed != row.wanted {
+			t.Errorf("%s: %v", name, chains)
+		}
+	}
+	// (so that the entries for Mallory must be read)
+	s.store.kept.clear()
+	s.table.fault = errors.New("the server is gone")
+	if _, err := s.isNamed(shown); err == nil {
+		t.Error("it is known without the entries")
+	}
+	if _, reply := s.leaveAs(t, stranger, shown); reply != answerFailed {
+		t.Error(reply)
 	}
 }
 

@@ -321,13 +321,13 @@ class Schema(OfStore):
 
     def test_a_keeper_keeps_certificates_within_limits(self) -> None:
         """An account of the role `keeper`, which keeps certificates of clients, can do so by one function alone, within limits: here for at most 2
-        keys, and at most 2 texts of each. A text whose time has ended is removed."""
+        keys, and at most 2 texts of each. A text whose time has ended is removed, and one that no list names where another one needs its room."""
         kim, reader = self.make_account("kim", "keeper"), self.make_account("rob", "reader")
-        keep = f"SELECT {self.schema}.keep(%s, %s, now() + '1 h', 2, 2)"
+        keep = f"SELECT {self.schema}.keep(%s, %s, now() + '1 h', 2, 2, %s)"
 
-        def keep_text(key: int, text: bytes) -> str:
+        def keep_text(key: int, text: bytes, is_named: bool = False) -> str:
             """What the function answers to a text of a client, the digest of whose key is 32 octets `key`: `kept`, `known` or `full`."""
-            (word,), = kim.rows(keep, bytes([key]) * 32, text)
+            (word,), = kim.rows(keep, bytes([key]) * 32, text, is_named)
             return str(word)
         self.assertEqual([keep_text(1, b"a"), keep_text(1, b"a"), keep_text(1, b"b"), keep_text(1, b"c"), keep_text(2, b"a"), keep_text(3, b"a")],
                          ["kept", "known", "kept", "full", "kept", "full"])
@@ -340,8 +340,16 @@ class Schema(OfStore):
             with self.subTest(text), self.assertRaises(psycopg.errors.InsufficientPrivilege):
                 store.rows(text)
         with self.assertRaises(psycopg.errors.InsufficientPrivilege):
-            reader.rows(keep, bytes(32), b"")
+            reader.rows(keep, bytes(32), b"", False)
         self.assertRaises(psycopg.Error, keep_text, 3, bytes(8192 + 1))  # (the table has texts of at most 8,192 octets)
+        # (what no list names gives way to what one names: a text of the same key, or a whole key, and never the reverse)
+        for key, shown, is_named, word, kept in (
+                (1, b"n", True, "kept", "1b 1n 3a"), (2, b"n", True, "kept", "1b 1n 2n"), (3, b"x", False, "full", "1b 1n 2n"),
+                (3, b"n", True, "full", "1b 1n 2n"), (1, b"b", True, "known", "1b 1n 2n"), (1, b"m", True, "full", "1b 1n 2n"),
+                (2, b"x", False, "kept", "1b 1n 2n 2x"), (2, b"m", True, "kept", "1b 1n 2m 2n"), (2, b"x", False, "full", "1b 1n 2m 2n")):
+            self.assertEqual(keep_text(key, shown, is_named), word, (key, shown))
+            rows = kim.rows("SELECT key, text FROM {chains} ORDER BY key, text")
+            self.assertEqual(" ".join(f"{row[0][0]}{row[1].decode()}" for row in rows), kept, (key, shown))
 
     def test_changes_are_numbered_in_order(self) -> None:
         """A change waits for the end of another transaction with a change, so no lower number appears after a higher one. If that stays open, the
