@@ -65,9 +65,12 @@ type reader interface {
 }
 
 // A storeState is a state of the store: the number of its last change, the time of that change, which tells one history from another, and the number
-// and the time of the last beat, which `spki-store beat` writes each second. Times are in microseconds since 1970.
+// and the time of the last beat, which `spki-store beat` writes each second. Times are in microseconds since 1970. Only a poll reads the last three,
+// which that program also writes: how many seconds a change has waited for a holder, or 0, who that is, and how many of them were ended in all.
 type storeState struct {
 	changes, token, beat, beaten int64
+	waits, holdersEnded          int64
+	holder                       string
 }
 
 // entryRows are entries in the order of their numbers: the numbers, the texts, each that of one entry in canonical form if the database is right, and

@@ -260,7 +260,8 @@ func TestStaleStore(t *testing.T) {
 	}
 }
 
-// TestStatusOfStore reads the status line of a store that was not read yet, and of one whose last beat is 1.5 seconds old.
+// TestStatusOfStore reads the status line of a store that was not read yet, and of one whose last beat is 1.5 seconds old. While a change waits, the
+// status has that as an error.
 func TestStatusOfStore(t *testing.T) {
 	s := newStored(t)
 	s.time = s.time.Add(1500 * time.Millisecond)
@@ -273,6 +274,16 @@ func TestStatusOfStore(t *testing.T) {
 	}
 	if line, err := s.store.statusLine(); !strings.HasPrefix(line, "store: change 1, beat 1, 1.5 s old, ended 0, ") || err != nil {
 		t.Errorf("%q %v", line, err)
+	}
+	s.table.state.waits, s.table.state.holder = 3, "process 9 of 'ann'"
+	s.beat()
+	if _, err := s.store.statusLine(); err == nil || !strings.Contains(err.Error(), "waited 3 s for process 9 of 'ann'") {
+		t.Error(err)
+	}
+	s.table.state.waits = 0
+	s.beat()
+	if _, err := s.store.statusLine(); err != nil {
+		t.Error(err)
 	}
 }
 

@@ -5,6 +5,7 @@ tables: `entries`, `ended` certificates, `changes` (the log), `imports`, a `hear
 the command, which must end with this status: 0 is done, 1 wrong, missing or different, 2 a refusal, 3 a fault of the database or a file. A daemon
 answers a request with 200 to grant it, 401 or 403 to deny it, and 503 if the state of its store is stale. A wait fails the test after 600 seconds."""
 import argparse
+import concurrent.futures
 import contextlib
 import hashlib
 import http.client
@@ -91,6 +92,37 @@ class OfStore(built.OfLibrary):
         self.addCleanup(process.wait)
         self.addCleanup(process.kill)
         return process
+
+    def make_account(self, name: str, role: str, *roles: str) -> Store:
+        """Makes an account of PostgreSQL with a role of the store, `reader`, `writer`, `adder` or `keeper`, and with `roles` of the server. Returns
+        the store as this account uses it."""
+        account = f"{self.schema}_{name}"
+        self.store.connection.execute(f"CREATE ROLE {account} LOGIN IN ROLE {', '.join([f'{self.schema}_{role}', *roles])}".encode())
+        store = Store(f"host={self.server.folder} user={account} dbname=postgres", self.schema)
+        self.addCleanup(store.close)
+        return store
+
+    def pass_all_rows(self, entry: bytes = ENTRY) -> None:
+        """Has the database test no row any more, and take each for one of the key of an entry."""
+        self.store.connection.execute(f"CREATE OR REPLACE FUNCTION {self.schema}.principal_of(text bytea) RETURNS bytea LANGUAGE sql IMMUTABLE"
+                                      f" AS 'SELECT ''\\x{texts.principal_of(entry).hex()}''::bytea'".encode())
+
+    def begin(self, store: Store, *texts: str) -> int:
+        """Begins a transaction of a store's account with some statements, in which a table is written as `{entries}`. It stays open until the end of
+        the test. Returns the process of the server that has it."""
+        connection = psycopg.connect(store.settings)
+        self.addCleanup(connection.close)
+        for text in texts:
+            connection.execute(store.statement(text))
+        return connection.info.backend_pid
+
+    def start_removal(self, number: int) -> "concurrent.futures.Future[bool]":
+        """Starts to remove an entry, as a change that waits for ever. Returns what has the result of `Store.remove`."""
+        store, pool = Store(self.server.address, self.schema), concurrent.futures.ThreadPoolExecutor(1)
+        self.addCleanup(pool.shutdown)
+        self.addCleanup(store.close)
+        store.connection.execute("SET lock_timeout = 0")
+        return pool.submit(store.remove, number)
 
     def wait_for_beat(self) -> None:
         """Waits for the first beat: before it the state that `init` made may be stale, and a test may stop the server before `beat` has begun."""
@@ -220,6 +252,26 @@ class Command(OfStore):
             self.store.connection.execute(statement.replace("spki.", f"{self.schema}.").encode())
         self.check_entries(wanted)
 
+    def test_store_of_an_earlier_init(self) -> None:
+        """A store without the newer columns and functions gets them as the page says. Then `beat` and keepers work, and others may not keep."""
+        for text in ("ALTER TABLE {heartbeat} DROP waits, DROP holder, DROP ended", "ALTER TABLE {chains} DROP named",
+                     f"DROP FUNCTION {self.schema}.keep"):
+            self.store.rows(text)
+        schema = pathlib.Path(tables.SCHEMA).read_text().replace("@SCHEMA@", self.schema)
+        statements = re.findall(r"^    (ALTER TABLE spki\..*;)$", text_of("apps/spki-store/README.md"), re.MULTILINE)
+        functions = re.findall(r"^CREATE FUNCTION (.*?^END \$\$;)$", schema, re.MULTILINE | re.DOTALL)
+        self.assertEqual((len(statements), len(functions)), (2, 4))
+        with self.store.connection.transaction():
+            for text in (*[each.replace("spki.", f"{self.schema}.") for each in statements],
+                         *[f"CREATE OR REPLACE FUNCTION {each}" for each in functions], schema[schema.index("\nREVOKE"):]):
+                self.store.connection.execute(text.encode())
+        kim, rob, wilma = (self.make_account(*words) for words in (("kim", "keeper"), ("rob", "reader"), ("wilma", "writer")))
+        keep = f"SELECT {self.schema}.keep(sha256(''), '', now() + '1 h', 1, 1, true)"
+        self.assertEqual(kim.rows(keep), [("kept",)])
+        self.assertRaises(psycopg.errors.InsufficientPrivilege, rob.rows, keep)
+        wilma.beat(3, "holder", 1)
+        self.assertEqual(rob.rows("SELECT waits, holder, ended FROM {heartbeat}"), [(3, "holder", 1)])
+
 
 class Schema(OfStore):
     """What the database itself refuses, what it lets pass, and what it notes."""
@@ -294,14 +346,6 @@ class Schema(OfStore):
             self.store.connection.execute(f"SET LOCAL ROLE {self.schema}_reader")
             self.assertEqual(self.store.rows("SELECT number, what FROM {changes} ORDER BY number"),
                              [(1, "add"), (2, "add"), (3, "remove"), (4, "end")])
-
-    def make_account(self, name: str, role: str) -> Store:
-        """Makes an account of PostgreSQL with a role: `reader`, `writer`, `adder` or `keeper`. Returns the store as this account uses it."""
-        account = f"{self.schema}_{name}"
-        self.store.connection.execute(f"CREATE ROLE {account} LOGIN IN ROLE {self.schema}_{role}".encode())
-        store = Store(f"host={self.server.folder} user={account} dbname=postgres", self.schema)
-        self.addCleanup(store.close)
-        return store
 
     def test_an_adder_removes_only_its_own_entries(self) -> None:
         """An `adder` can remove only what the same account has added, and a `writer` any entry. The log has the accounts."""
@@ -638,6 +682,95 @@ class Heartbeat(OfStore):
         with fails, pauses as sleep, contextlib.redirect_stderr(io.StringIO()), self.assertRaises(EOFError):
             commands.beat(self.store, argparse.Namespace(times=0))  # (0: without end, so the second pause ends it)
         self.assertTrue(all(call.args[0] > 0 for call in sleep.call_args_list))
+
+
+class Holders(OfStore):
+    """Whom `beat` finds to hold changes up, and ends. A look is `Beats.look`, which ends those for whom a change has waited some seconds."""
+
+    def setUp(self) -> None:
+        super().setUp()
+        self.ann = self.make_account("ann", "adder")
+        self.number = self.store.add(ENTRY)
+
+    def beats(self, name: str, *roles: str) -> Beats:
+        """The heartbeat of a new account that is a writer, and has `roles` of the server."""
+        return Beats(self.make_account(name, "writer", *roles))
+
+    def look_until_told(self, beats: Beats, seconds: int) -> str:
+        """Beats and looks, as `beat` does, until a look tells something. Returns that. Each holder is ended for whom a change has waited so long."""
+        told: list[str] = []
+
+        def is_told() -> bool:
+            beats.beat()
+            told.extend(beats.look(seconds))
+            return bool(told)
+        waits_for("something is told", is_told)
+        return "\n".join(told)
+
+    def test_an_adder_cannot_hold_a_removal_off(self) -> None:
+        """An adder that has locked the table, waits to lock it behind somebody who reads, or has added and does not commit, is ended. The removal is
+        made then, and who reads stays."""
+        beats, rob = self.beats("bea", "pg_signal_backend", "pg_read_all_stats"), self.make_account("rob", "reader")
+        added = f"INSERT INTO {{entries}} (text) VALUES ('\\x{ENTRY.hex()}')"
+        for begun in ("LOCK TABLE {entries} IN SHARE ROW EXCLUSIVE MODE", "LOCK TABLE {entries}", added):
+            with self.subTest(begun):
+                holder = self.begin(self.ann, begun)
+                removal = self.start_removal(self.number)
+                self.assertEqual(self.look_until_told(beats, 1), f"process {holder} of '{self.schema}_ann' held changes up, and is ended")
+                self.assertTrue(removal.result())
+                self.number = self.store.add(ENTRY)
+        reader = self.begin(rob, "SELECT * FROM {entries}")
+        waiting = threading.Thread(target=self.assertRaises, args=(psycopg.OperationalError, self.begin, self.ann, "LOCK TABLE {entries}"))
+        waiting.start()
+        self.addCleanup(waiting.join)
+        waits_for("the adder waits", lambda: bool(self.store.rows("SELECT 1 FROM pg_locks WHERE NOT granted")))
+        removal = self.start_removal(self.number)
+        self.assertIn("of '%s_ann' held changes up, and is ended" % self.schema, self.look_until_told(beats, 1))
+        self.assertTrue(removal.result())
+        self.assertEqual(self.store.rows("SELECT state FROM pg_stat_activity WHERE pid = %s", reader), [("idle in transaction",)])
+        beats.beat()
+        self.assertEqual(self.store.rows("SELECT ended FROM {heartbeat}"), [(4,)])
+
+    def test_who_is_not_ended(self) -> None:
+        """Nobody is ended by an account without the rights, after 0 seconds, or while nobody waits; and neither is a change that waits itself, nor a
+        superuser. What the heartbeat notes says for whom a change waits."""
+        weak, beats, off = self.beats("weak"), self.beats("bea", "pg_signal_backend", "pg_read_all_stats"), self.beats("off", "pg_read_all_stats")
+        numbers = [self.number, self.store.add(ENTRY)]
+        holder = self.begin(self.ann, f"INSERT INTO {{entries}} (text) VALUES ('\\x{ENTRY.hex()}')")
+        time.sleep(1.1)  # (nobody is ended in the first second of a transaction)
+        self.assertEqual((beats.store.awaited(), beats.look(1)), ([], []))
+        removals = [self.start_removal(number) for number in numbers]
+        self.assertIn("or this account lacks the role pg_read_all_stats", self.look_until_told(weak, 1))
+        self.assertIn("pg_signal_backend", self.look_until_told(off, 1))
+        beats.beat()
+        self.assertEqual(beats.look(0), [])
+        beats.beat()
+        (waits, who, ended), = self.store.rows("SELECT waits, holder, ended FROM {heartbeat}")
+        self.assertEqual((waits > 0, who, ended), (True, f"process {holder} of '{self.schema}_ann'", 0))
+        self.assertEqual([removal.done() for removal in removals], [False, False])
+        self.assertIn("is ended", self.look_until_told(beats, 1))
+        self.assertEqual([removal.result() for removal in removals], [True, True])
+        number = self.store.add(ENTRY)
+        superuser = self.begin(self.store, "LOCK TABLE {entries}")
+        removal = self.start_removal(number)
+        self.assertIn("superuser", self.look_until_told(beats, 1))
+        self.store.rows("SELECT pg_terminate_backend(%s)", superuser)
+        self.assertTrue(removal.result())
+
+    def test_who_waits_for_a_replica_is_not_ended(self) -> None:
+        """An adder whose entry waits for a replica has changed the store already, and is not ended. The heartbeat waits for no replica here."""
+        beats = self.beats("bea", "pg_signal_backend", "pg_read_all_stats")
+        beats.store.rows("SET synchronous_commit = local")
+        change_setting(self.server, "synchronous_standby_names", "ANY 1 (*)")
+        self.addCleanup(change_setting, self.server, "synchronous_standby_names", "")
+        adder = threading.Thread(target=self.ann.add, args=(ENTRY,))
+        adder.start()
+        self.addCleanup(adder.join)
+        waits_for("the adder waits for a replica", lambda: bool(self.store.rows("SELECT 1 FROM pg_stat_activity WHERE wait_event = 'SyncRep'")))
+        removal = self.start_removal(self.number)
+        self.assertIn("is not ended: it waits for a replica", self.look_until_told(beats, 1))
+        change_setting(self.server, "synchronous_standby_names", "")
+        self.assertTrue(removal.result())
 
 
 class Replicated(OfServed):

@@ -115,9 +115,16 @@ CREATE TABLE @SCHEMA@.state (one boolean PRIMARY KEY DEFAULT true CHECK (one), v
     WITH (fillfactor = 10);
 INSERT INTO @SCHEMA@.state (version, changes) VALUES (2, 0);
 
--- `spki-store beat` increases this number each second.
-CREATE TABLE @SCHEMA@.heartbeat (one boolean PRIMARY KEY DEFAULT true CHECK (one), number bigint NOT NULL, moment timestamptz NOT NULL)
-    WITH (fillfactor = 10);
+-- `spki-store beat` increases this number each second. It also notes how many seconds a change has waited for somebody who holds it up, or 0, who that
+-- is, and how many of them were ended in all.
+CREATE TABLE @SCHEMA@.heartbeat (
+    one boolean PRIMARY KEY DEFAULT true CHECK (one),
+    number bigint NOT NULL,
+    moment timestamptz NOT NULL,
+    waits integer NOT NULL DEFAULT 0,
+    holder text NOT NULL DEFAULT '',
+    ended bigint NOT NULL DEFAULT 0
+) WITH (fillfactor = 10);
 INSERT INTO @SCHEMA@.heartbeat (number, moment) VALUES (0, clock_timestamp());
 
 -- How far a list was imported, by the SHA-256 digest of its text in canonical form.
@@ -207,7 +214,9 @@ GRANT SELECT (number, moment, what, entry, digest) ON @SCHEMA@.changes TO @SCHEM
 GRANT SELECT ON @SCHEMA@.changes TO @SCHEMA@_writer;
 GRANT INSERT (text), DELETE ON @SCHEMA@.entries TO @SCHEMA@_writer, @SCHEMA@_adder;
 GRANT INSERT (certificate, remark) ON @SCHEMA@.ended TO @SCHEMA@_writer;
-GRANT UPDATE (number, moment) ON @SCHEMA@.heartbeat TO @SCHEMA@_writer;
+-- (who holds changes up is ended by pg_read_all_stats and pg_signal_backend, which are roles of the whole server: a superuser grants them to the account
+-- of the heartbeat, and not to each writer)
+GRANT UPDATE (number, moment, waits, holder, ended) ON @SCHEMA@.heartbeat TO @SCHEMA@_writer;
 GRANT SELECT, INSERT, UPDATE, DELETE ON @SCHEMA@.imports TO @SCHEMA@_writer;
 GRANT SELECT, DELETE ON @SCHEMA@.chains TO @SCHEMA@_writer;
 GRANT SELECT ON @SCHEMA@.state, @SCHEMA@.chains TO @SCHEMA@_keeper;
