@@ -92,8 +92,8 @@ func (s *store) statusLine() (string, error) {
 		sinceBeat, _ := s.polled.age(s.now())
 		age = fmt.Sprintf("%.1f s old", sinceBeat.Seconds())
 	}
-	return fmt.Sprintf("store: change %d, beat %d, %s, ended %d, kept %d keys in %d octets, read %d times, not read %d\n", s.polled.changes,
-		s.polled.beat, age, len(s.ended), s.kept.count(), s.kept.size, s.count.misses, s.count.failures), err
+	return fmt.Sprintf("store: change %d, beat %d, %s, ended %d, kept %d keys in %d octets, read %d times, not read %d, skipped rows %d\n",
+		s.polled.changes, s.polled.beat, age, len(s.ended), s.kept.count(), s.kept.size, s.count.misses, s.count.failures, s.count.skipped), err
 }
 
 // stamp returns a text by which states of a list are compared: the digest of a file, or `change-NUMBER-TIME` of the last change of a store that was
@@ -129,6 +129,8 @@ var storeFamilies = []struct {
 		func(s *store) any { return s.lastPolled().holdersEnded }},
 	{"store_rows_kept_total", "counter", "Decisions by rows that were kept.", func(s *store) any { return s.countsNow().hits }},
 	{"store_rows_read_total", "counter", "Decisions whose rows were read.", func(s *store) any { return s.countsNow().misses }},
+	{"store_rows_skipped_total", "counter", "Rows that were read and skipped, since each is not one entry of its principal.",
+		func(s *store) any { return s.countsNow().skipped }},
 	{"store_rows_failed_total", "counter", "Decisions that failed since their rows could not be read.", func(s *store) any { return s.countsNow().failures }},
 }
 

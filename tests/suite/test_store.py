@@ -318,9 +318,14 @@ class Schema(OfStore):
             self.assertEqual([row.text for row in self.store.all()], [ENTRY])
 
     def test_row_that_is_no_entry(self) -> None:
-        """`check` finds an entry that the constraints of the database let pass: here one without its tag."""
+        """`check` finds an entry that the constraints of the database let pass: here one without its tag. It finds each row that is none also if they
+        join into entries, as many as there are rows, where somebody has changed what the database tests."""
         self.store.rows("INSERT INTO {entries} (text) VALUES (%s), (%s)", ENTRY, ENTRY.replace(b"(3:tag(1:*))", b""))
         self.assertEqual(self.spki_store(1, "check").splitlines()[-1], "entries checked: 2, wrong 1")
+        self.store.rows("DELETE FROM {entries}")
+        self.pass_all_rows()
+        self.store.rows("INSERT INTO {entries} (text) VALUES (%s), (%s), (%s)", ENTRY + ENTRY[:9], ENTRY[9:], ENTRY)
+        self.assertEqual(self.spki_store(1, "check").splitlines()[-1], "entries checked: 3, wrong 2")
 
     def test_what_readers_and_writers_may_do(self) -> None:
         """A reader cannot write, or see a change's account or text. A writer adds, removes, ends and beats. The owner too edits no entry or log."""
@@ -570,6 +575,45 @@ class Served(OfServed):
         connection.close()
         other.wait_for_status(200, bob)
         self.assertEqual(other.daemon.last_grant()["kept"], "used")
+
+    def test_rows_that_are_no_entries(self) -> None:
+        """Rows for Alice that are no entries, some of which join into what looks like some, are skipped, counted and logged. Her entry grants all the
+        same."""
+        self.start_beat(self.server.address)
+        alice, authd = self.people["alice"], self.start_daemon("rows", self.server)
+        entry = texts.entry_of(f"(entry {alice.key} (tag (files read (* prefix /web/))))".encode())
+        self.pass_all_rows(entry)
+        for text in (entry[:40], entry[40:], b"", entry + entry, entry.replace(b"(3:tag", b"(3:gat"), entry + entry[:40], entry, entry[40:],
+                     b"(5:entry"):
+            number = self.store.add(text)
+        authd.wait_for_status(200, alice)
+        self.assertEqual((authd.daemon.last_grant()["entry"], authd.daemon.last_grant()["skipped"]), (number - 2, 8))
+        self.assertIn('\nspki_authd_store_rows_skipped_total{list="1"} 8\n', authd.daemon.run("-metrics")[1])
+        self.assertEqual(self.spki_store(1, "check").splitlines()[-1], "entries checked: 9, wrong 8")
+
+    def test_an_adder_that_holds_a_removal_off(self) -> None:
+        """While a removal waits for an adder who has locked the table, the daemon's health and metrics say so. `spki-store beat` ends the adder after
+        the usual time, and the removal is made."""
+        alice, authd = self.people["alice"], self.start_daemon("held", self.server)
+        beats = Beats(self.make_account("bea", "writer", "pg_signal_backend", "pg_read_all_stats"))
+        number = self.add_entry(alice)
+        holder = self.begin(self.make_account("ann", "adder"), "LOCK TABLE {entries} IN SHARE ROW EXCLUSIVE MODE")
+        removal = self.start_removal(number)
+
+        def is_said() -> bool:
+            """Beats and looks, and says whether the daemon's health fails since a change waits."""
+            beats.beat()
+            self.assertEqual(beats.look(0), [])
+            status, _, errors = authd.daemon.run("-health")
+            return status == 1 and re.search(rf"a change of the store has waited [1-9]\d* s for process {holder} of ", errors) is not None
+        waits_for("the daemon's health fails", is_said)
+        self.assertRegex(authd.daemon.run("-metrics")[1], r'\nspki_authd_store_change_waits_seconds\{list="1"\} [1-9]')
+        self.assertFalse(removal.done())
+        self.start_beat(beats.store.settings)
+        self.assertTrue(removal.result())
+        authd.wait_for_status(401, alice)
+        waits_for("the daemon's health is well", lambda: authd.daemon.run("-health")[0] == 0)
+        self.assertIn('\nspki_authd_store_holders_ended_total{list="1"} 1\n', authd.daemon.run("-metrics")[1])
 
     def test_server_that_hangs(self) -> None:
         """If the server of PostgreSQL accepts statements and answers nothing, the daemon answers 503, and does not hang."""

@@ -18,7 +18,7 @@ import psycopg
 
 from .beats import AGAIN, END_AFTER, EVERY, Beats
 from .tables import ROLES, Store
-from .texts import MOST, Wrong, advanced, batches, entry_of, fault_of, fault_of_one, principal_of
+from .texts import MOST, Wrong, advanced, batches, entry_of, fault_of, fault_of_one, is_canonical, principal_of
 from .transfer import MOST_AT_ONCE, differences, export_list, forget, import_list
 
 DONE, FOUND, REFUSED, FAILED = 0, 1, 2, 3
@@ -121,7 +121,8 @@ def check(store: Store, given: argparse.Namespace) -> int:
     count, wrong = 0, 0
     for page in batches(((row, len(row.text)) for row in store.all()), MOST_AT_ONCE):
         count += len(page)
-        are_entries = fault_of([row.text for row in page]) is None
+        # (rows that are each no list could join into some)
+        are_entries = all(is_canonical(row.text) for row in page) and fault_of([row.text for row in page]) is None
         for row in page:
             why = None if are_entries else fault_of_one(row.text)
             if why is None and principal_of(row.text) != row.principal:
