@@ -3,10 +3,8 @@ package main
 // How the key of the client's TLS certificate is read from a header. Each web server passes the certificate on in one of three forms.
 
 import (
-	"bytes"
 	"crypto/x509"
 	"encoding/base64"
-	"encoding/pem"
 	"errors"
 	"net/url"
 	"strings"
@@ -92,19 +90,31 @@ func keyOf(text string, form form) ([]byte, error) {
 	return key, nil
 }
 
+// The most octets of a certificate in escaped PEM, and the lines that its PEM begins and ends with.
+const (
+	mostPEM  = 65_536
+	beginPEM = "-----BEGIN CERTIFICATE-----"
+	endPEM   = "-----END CERTIFICATE-----"
+)
+
 // fromEscapedPEM reads PEM in which characters are written as %XX: `$ssl_client_escaped_cert` of nginx. A `+` stays one, since base64 has it. It fails
-// unless the text is one block CERTIFICATE without headers. pem.Decode skips what is in front of a block, so the beginning is tested too.
+// for over mostPEM octets, and unless the text is one block CERTIFICATE without headers, behind which only white space follows. pem.Decode would take
+// quadratic time for a text that begins many blocks.
 func fromEscapedPEM(text string) ([]byte, error) {
+	if len(text) > mostPEM {
+		return nil, errCertificate
+	}
 	unescaped, err := url.PathUnescape(text)
 	if err != nil {
 		return nil, err
 	}
-	block, rest := pem.Decode([]byte(unescaped))
-	if block == nil || block.Type != "CERTIFICATE" || len(block.Headers) > 0 || len(bytes.TrimSpace(rest)) > 0 ||
-		!strings.HasPrefix(unescaped, "-----BEGIN ") {
+	// (without endPEM the text has no white space at its end here, and so no line feed)
+	body := strings.TrimSuffix(strings.TrimRight(unescaped, " \t\r\n"), endPEM)
+	if !strings.HasPrefix(body, beginPEM+"\n") && !strings.HasPrefix(body, beginPEM+"\r\n") || !strings.HasSuffix(body, "\n") {
 		return nil, errCertificate
 	}
-	return block.Bytes, nil
+	// (base64 has no `-`, so the body has no second block: the decoder passes over CR and LF alone)
+	return base64.StdEncoding.DecodeString(body[len(beginPEM):])
 }
 
 // fromBase64DER reads DER in base64, as Caddy, HAProxy, Apache and Traefik pass it on. Traefik writes the client's whole chain, with a comma between the

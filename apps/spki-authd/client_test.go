@@ -11,6 +11,7 @@ import (
 	"encoding/base64"
 	"strings"
 	"testing"
+	"time"
 )
 
 // TestCertificateForms reads the key of Alice's certificate in the forms of nginx, Caddy, Traefik and Envoy.
@@ -41,7 +42,12 @@ func TestWrongCertificateForms(t *testing.T) {
 		"two certificates": {escapedPEM, alice.escaped() + bob.escaped()}, "text in front": {escapedPEM, "x%0A" + alice.escaped()},
 		"text behind": {escapedPEM, alice.escaped() + "x"}, "other block": {escapedPEM, strings.ReplaceAll(alice.escaped(), "CERTIFICATE", "PUBLIC%20KEY")},
 		"truncated": {escapedPEM, alice.escaped()[:len(alice.escaped())/2]}, "base64 as PEM": {escapedPEM, encoded},
-		"no base64": {base64DER, "~"}, "PEM as base64": {base64DER, alice.escaped()}, "no certificate": {base64DER, "AAAA"},
+		"no end": {escapedPEM, strings.SplitAfter(alice.escaped(), "-----END")[0]}, "no line": {escapedPEM, strings.ReplaceAll(alice.escaped(), "%0A", "")},
+		"no beginning":          {escapedPEM, strings.TrimPrefix(alice.escaped(), "-----BEGIN%20CERTIFICATE-----")},
+		"two ends":              {escapedPEM, strings.TrimRight(alice.escaped(), "%0A") + "%0A-----END%20CERTIFICATE-----"},
+		"a header in the block": {escapedPEM, strings.Replace(alice.escaped(), "-----%0A", "-----%0Aa:%20b%0A%0A", 1)},
+		"over 64 KiB":           {escapedPEM, alice.escaped() + strings.Repeat("%0A", 65_536/3)},
+		"no base64":             {base64DER, "~"}, "PEM as base64": {base64DER, alice.escaped()}, "no certificate": {base64DER, "AAAA"},
 		"half": {base64DER, encoded[:len(encoded)/8*4]}, "an octet behind": {base64DER, base64.StdEncoding.EncodeToString(append(alice.der, 0))},
 		"empty first": {base64DER, "," + encoded}, "spaces": {base64DER, " " + encoded},
 		"two headers in one": {base64DER, encoded + ", " + base64.StdEncoding.EncodeToString(bob.der)},
@@ -52,6 +58,24 @@ func TestWrongCertificateForms(t *testing.T) {
 		if key, err := keyOf(row.text, forms[row.form]); err == nil {
 			t.Errorf("%s: %q", name, key)
 		}
+	}
+}
+
+// TestManyBeginnings reads a hundred headers with the beginnings of thousands of blocks each, in up to 128 KiB, as a stranger can send them. The limit of
+// time is only for what hangs: a reader that looks for the end of each block takes over 20 seconds.
+func TestManyBeginnings(t *testing.T) {
+	begun, text := time.Now(), strings.Repeat("-----BEGIN A-----%0A", 131_072/20)
+	for _, value := range []string{text, text[:60_000], beginPEM + "%0A" + text[:60_000] + endPEM, `Cert="` + text[:60_000] + `"`} {
+		for turn := 0; turn < 25; turn++ {
+			for name, form := range forms {
+				if key, err := keyOf(value, form); err == nil {
+					t.Fatalf("%s: %q", name, key)
+				}
+			}
+		}
+	}
+	if took := time.Since(begun); took > 10*time.Second {
+		t.Error(took)
 	}
 }
 

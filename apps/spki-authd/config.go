@@ -66,6 +66,8 @@ type limits struct {
 	AddressRate int `json:"address_rate"`
 	// The denials a second that are explained.
 	ExplainRate int `json:"explain_rate"`
+	// The sequences a minute that one address may leave.
+	LeaveRate int `json:"leave_rate"`
 }
 
 const (
@@ -80,7 +82,7 @@ const (
 )
 
 // usualLimits are taken for limits of zero. 40 workers of nginx that keep 16 connections each have 640, and there is room for others.
-var usualLimits = limits{HeaderOctets: 131_072, PathOctets: 4096, Connections: 1024, Seconds: 5, ExplainRate: 5}
+var usualLimits = limits{HeaderOctets: 131_072, PathOctets: 4096, Connections: 1024, Seconds: 5, ExplainRate: 5, LeaveRate: 20}
 
 // readConfig reads the file of a configuration and checks it, and reads the secret whose file it names. With an error the configuration is not used.
 func readConfig(path string) (*config, error) {
@@ -166,7 +168,8 @@ func (c *config) setUsual() {
 
 // all returns pointers to the limits, always in this order: so setUsual pairs those of two values by their places.
 func (l *limits) all() []*int {
-	return []*int{&l.Octets, &l.Certificates, &l.Words, &l.HeaderOctets, &l.PathOctets, &l.Connections, &l.Seconds, &l.KeyRate, &l.AddressRate, &l.ExplainRate}
+	return []*int{&l.Octets, &l.Certificates, &l.Words, &l.HeaderOctets, &l.PathOctets, &l.Connections, &l.Seconds, &l.KeyRate, &l.AddressRate,
+		&l.ExplainRate, &l.LeaveRate}
 }
 
 // setText sets a text to a usual one if it is empty.

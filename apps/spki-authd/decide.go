@@ -27,8 +27,8 @@ type decider struct {
 	// What the metrics count: the answers, and how often the time of day went back.
 	counts *counts
 	clock  clock
-	// How often each key and each address may ask.
-	byKey, byAddress *rateLimiter
+	// How often each key and each address may ask, and each address may leave certificates.
+	byKey, byAddress, byLeaving *rateLimiter
 	// How often denials are explained, of all keys together.
 	explanations *rateLimiter
 	// The clock, and what verifies a signature of a certificate. Tests set others.
@@ -54,15 +54,16 @@ var (
 	errNoList        = errors.New("no access list is for this host and path")
 	errOftenAddress  = errors.New("the address asks more often than address_rate")
 	errOftenKey      = errors.New("the key asks more often than key_rate")
+	errOftenLeft     = errors.New("the address leaves more certificates than leave_rate")
 )
 
 // decide returns the record of an inquiry at a moment, with its answer, which is yes only if a guard has granted the request. The record has neither a
 // time nor a status yet.
 func (d *decider) decide(inquiry *inquiry, now time.Time) record {
 	result := record{Answer: answerNo, ID: inquiry.id, Host: inquiry.host}
-	if !d.byAddress.allows(networkOf(inquiry.address), now) {
+	if err := d.whyLimited(inquiry, now); err != nil {
 		result.Address = cut(inquiry.address, mostID)
-		return result.withReason(answerLimited, errOftenAddress)
+		return result.withReason(answerLimited, err)
 	}
 	client, proof, err := d.clientOf(inquiry)
 	if err != nil && errors.Is(err, errNoCertificate) {
@@ -94,6 +95,20 @@ func (d *decider) decide(inquiry *inquiry, now time.Time) record {
 	}
 	d.judgeAll(&result, client.key, path, inquiry, now)
 	return d.takeNonce(result, proof)
+}
+
+// whyLimited returns errOftenAddress or errOftenLeft if the address of an inquiry has asked, or left certificates, too often at `now`, or nil. It counts
+// the inquiry. All clients whose address the web server does not say have one together.
+func (d *decider) whyLimited(inquiry *inquiry, now time.Time) error {
+	network := networkOf(inquiry.address)
+	if !d.byAddress.allows(network, now) {
+		return errOftenAddress
+	}
+	// (only a request that leaves certificates has a body)
+	if inquiry.body != nil && !d.byLeaving.allows(network, now) {
+		return errOftenLeft
+	}
+	return nil
 }
 
 // targetForLog returns what the log has of a target that is refused. A query may have a password or a token, and is left out.

@@ -77,7 +77,7 @@ func FuzzSequence(f *testing.F) {
 // this key in it, or its hash by SHA-256 (the seeds have no other hash, and nobody signs new ones), and no more is granted by it than checkGrant
 // allows.
 func FuzzLeft(f *testing.F) {
-	s := newSite(f, `, "chains": {"folder": "`+f.TempDir()+`"}`+withSignatures)
+	s := newSite(f, `, "limits": {"leave_rate": 1000000000}, "chains": {"folder": "`+f.TempDir()+`"}`+withSignatures)
 	// (`hashed` names Bob by the hash of his key, and has a comment with a display hint)
 	bobs, hashed := s.alice.sign(s.toBob), s.alice.signedCertificate(s.bob.hashOfKey(), prefixTag("read", "/web/docs/"), "(7:comment[1:x]1:y)")
 	for _, shown := range []string{"", bobs, hashed, s.bob.key + bobs, bobs + s.bob.sign(s.toCarol), s.alice.signedNameCertificate("builders", s.bob.key)} {

@@ -116,6 +116,7 @@ func TestCallsPassTheGate(t *testing.T) {
 			_, err := s.config.namesKey([]byte(s.bob.key), key, s.now())
 			return errors.Is(err, errBusy)
 		},
+		"the issuer":  func() bool { _, err := s.isNamed(bobs); return errors.Is(err, errBusy) },
 		"the body":    func() bool { _, err := sequenceInBody([]byte(bobs)); return errors.Is(err, errBusy) },
 		"the form":    func() bool { _, text := s.sequences.get(bobs).canonical(); return string(text) == bobs },
 		"all of them": func() bool { status, reply := s.leaveAs(t, s.bob, bobs); return status == 503 && reply == answerFailed },

@@ -46,8 +46,8 @@ type chainKeeper interface {
 	currentOf(key string, now time.Time) ([]keptChain, error)
 	// whyNotAdded returns the answer to a sequence that add would not keep, or an empty one if add may keep it. It is asked before a signature is verified.
 	whyNotAdded(key string, chain keptChain, now time.Time) (answer, error)
-	// add keeps a sequence for a key, if there is room, and returns the answer to the client: `kept`, `known` or `full`, or `failed` with an error. No
-	// other sequence is replaced that has not ended.
+	// add keeps a sequence for a key, if there is room, and returns the answer to the client: `kept`, `known` or `full`, or `failed` with an error. It
+	// may remove sequences that have ended and, to make room for one that isNamed, those that are not. No other one is removed.
 	add(key string, chain keptChain, now time.Time) (answer, error)
 }
 
@@ -55,7 +55,9 @@ type chainKeeper interface {
 type folderChains struct {
 	// The configuration, with the folder and the limits.
 	chains
-	// Held while files are written or removed, so that one goroutine at a time does that. currentOf waits for no disk.
+	// What says whether a list names the first issuer of a kept sequence: decider.isNamed.
+	isNamed func(sequence string) (bool, error)
+	// Held while files are written or removed, and while what follows is changed, so that one goroutine at a time does that. currentOf waits for no disk.
 	writing sync.Mutex
 	// Guards what follows.
 	mutex sync.Mutex
@@ -84,10 +86,12 @@ const (
 var partName = regexp.MustCompile(`^[0-9a-f]{64}\.new$`)
 
 // A keptChain is a sequence in transport form, the name of its file, which is the SHA-256 digest of the text in hexadecimal digits, and the moment from
-// which on it does not count. One that was read from a store has no name.
+// which on it does not count. One that was read from a store has no name. isNamed says that a list named its first issuer when that was asked: of one
+// that was read from a file that was not asked yet.
 type keptChain struct {
 	text, name string
 	until      time.Time
+	isNamed    bool
 }
 
 // hasEnded says whether the sequence does not count any more at `now`.
@@ -135,14 +139,14 @@ func (c *chains) check(isSigned bool) error {
 	return nil
 }
 
-// openChains opens the folder or the store of the sequences that clients have left, or returns nil if the configuration has none. mayRemove says whether
-// files of sequences that are not needed at `now` may be removed. It fails as openFolderChains or openReader does.
-func openChains(c *config, now time.Time, mayRemove bool) (chainKeeper, error) {
+// openChains opens the folder or the store of the sequences that clients have left, or returns nil if the configuration has none. isNamed is
+// decider.isNamed. mayRemove says whether files of sequences that are not needed at `now` may be removed. It fails as openFolderChains or openReader does.
+func openChains(c *config, isNamed func(string) (bool, error), now time.Time, mayRemove bool) (chainKeeper, error) {
 	switch {
 	case c.Chains == nil:
 		return nil, nil
 	case c.Chains.Postgres == nil:
-		return openFolderChains(c.Chains, now, mayRemove)
+		return openFolderChains(c.Chains, isNamed, now, mayRemove)
 	}
 	// (a store is waited for as long as the line of a grant)
 	reader, err := openReader(c.Chains.Postgres, c.Limits.timeOfRequest()/partOfGrant)
@@ -155,9 +159,9 @@ func openChains(c *config, now time.Time, mayRemove bool) (chainKeeper, error) {
 // openFolderChains reads the sequences of a folder into memory. If mayRemove, it removes the files that are not needed, which `read` returns: of sequences
 // that ended over c.Days days ago, or that have ended and whose room is needed, and older files that were not written whole. mayRemove is false for -test,
 // which changes no file. A file that the daemon has not written is left out. It fails if the path is no folder, if the folder cannot be read, or if others
-// than its owner may write it.
-func openFolderChains(c *chains, now time.Time, mayRemove bool) (*folderChains, error) {
-	opened := &folderChains{chains: *c, byKey: map[string][]keptChain{}}
+// than its owner may write it. isNamed is decider.isNamed, and is not called before a sequence is added.
+func openFolderChains(c *chains, isNamed func(string) (bool, error), now time.Time, mayRemove bool) (*folderChains, error) {
+	opened := &folderChains{chains: *c, isNamed: isNamed, byKey: map[string][]keptChain{}}
 	about, err := os.Stat(c.Folder)
 	if err != nil {
 		return nil, err
@@ -204,35 +208,37 @@ func (f *folderChains) read(key, name string, now time.Time) (removable []keptFi
 		return nil
 	}
 	chain := f.chainOf(string(octets), about.ModTime())
-	ended, hasRoom := f.roomFor(key, len(octets), now)
+	ended, hasRoom := f.roomFor(key, len(octets), func(other *keptChain) bool { return other.hasEnded(now) })
 	// (no other one gives way to one that has ended)
 	isFree := hasRoom && len(ended) == 0
 	if chain.hasEnded(now) && !isFree || chain.hasEnded(now.AddDate(0, 0, -f.Days)) {
 		return thisFile
 	}
 	if hasRoom {
-		return f.keepInMemory(key, chain, now)
+		return f.keepInMemory(key, chain, ended)
 	}
 	return nil
 }
 
-// keepInMemory keeps a sequence in memory, in place of the same one if the key has that. Where room is needed, it takes sequences that have ended out
-// of memory, and returns their files, which the caller removes. `writing` is held, or no other goroutine has `f` yet.
-func (f *folderChains) keepInMemory(key string, chain keptChain, now time.Time) []keptFile {
+// keepInMemory keeps a sequence in memory, in place of the same one if the key has that, and takes those out for which roomFor has said that there is
+// room then. It returns their files, which the caller removes. `writing` is held, or no other goroutine has `f` yet.
+func (f *folderChains) keepInMemory(key string, chain keptChain, leaving []keptFile) (removable []keptFile) {
 	f.mutex.Lock()
 	defer f.mutex.Unlock()
-	// (first, so that it is not among those that are returned: its file is now that of the new one)
-	f.forget(keptFile{key, chain.name})
-	// (the caller has tested that there is room)
-	ended, _ := f.roomFor(key, len(chain.text), now)
-	for _, each := range ended {
+	kept := keptFile{key, chain.name}
+	f.forget(kept)
+	for _, each := range leaving {
 		f.forget(each)
+		// (the file of the same sequence is now that of the new one)
+		if each != kept {
+			removable = append(removable, each)
+		}
 	}
 	all := append(f.byKey[key], chain)
 	sort.SliceStable(all, func(first, second int) bool { return all[first].until.Before(all[second].until) })
 	f.byKey[key] = all
 	f.octets += len(chain.text)
-	return ended
+	return removable
 }
 
 // forget takes the sequence of a file out of memory, if it is there. The mutex is held.
@@ -260,51 +266,86 @@ func (f *folderChains) remove(files ...keptFile) {
 	}
 }
 
-// roomFor says whether a key can have one more sequence, of so many octets, and returns the files of those that have ended and must be removed for
-// it: none if there is room, and otherwise those of this key, and then of others, until there is. Without hasRoom, the caller removes none of
-// `ended`. It removes nothing itself. The mutex is held, or no other goroutine has `f` yet.
-func (f *folderChains) roomFor(key string, octets int, now time.Time) (ended []keptFile, hasRoom bool) {
-	// (each without the sequences in `ended`: how many this key has, how many keys there are, and the octets of all with the new one)
+// roomFor says whether a key can have one more sequence, of so many octets, if others are removed for which `gives` is true. It returns the files of as
+// many of these as must be: none if there is room, and otherwise those of this key, and then of others, until there is. Without hasRoom, the caller
+// removes none of `leaving`. It removes nothing itself. The mutex or `writing` is held, or no other goroutine has `f` yet.
+func (f *folderChains) roomFor(key string, octets int, gives func(other *keptChain) bool) (leaving []keptFile, hasRoom bool) {
+	// (each without the sequences in `leaving`: how many this key has, how many keys there are, and the octets of all with the new one)
 	own, keys, total := len(f.byKey[key]), len(f.byKey), f.octets+octets
 	isRoom := func() bool { return own < f.Each && (own > 0 || keys < f.Keys) && total <= mostLeft }
-	// (adds the ended sequences of one key to `ended`, one after the other, until there is room)
+	// (adds sequences of one key to `leaving`, one after the other, until there is room)
 	leaveOut := func(owner string, chains []keptChain) {
-		for place := 0; place < len(chains) && chains[place].hasEnded(now) && !isRoom(); place++ {
-			ended = append(ended, keptFile{owner, chains[place].name})
+		others := len(chains)
+		for place := 0; place < len(chains) && !isRoom(); place++ {
+			if !gives(&chains[place]) {
+				continue
+			}
+			leaving = append(leaving, keptFile{owner, chains[place].name})
 			total -= len(chains[place].text)
 			if owner == key {
 				own--
 			}
-			if place == len(chains)-1 {
+			if others--; others == 0 {
 				keys--
 			}
 		}
 	}
 	leaveOut(key, f.byKey[key])
-	// (first those keys of which all have ended: only they make room for another key)
-	for _, haveAllEnded := range []bool{true, false} {
+	// (first those keys of which all give way: only they make room for another key)
+	for _, giveAll := range []bool{true, false} {
 		for owner, chains := range f.byKey {
 			// (a key that itself has f.Each gets no room by the sequences of others)
 			if isRoom() || own >= f.Each {
 				break
 			}
-			if owner != key && chains[len(chains)-1].hasEnded(now) == haveAllEnded {
+			if owner != key && countOf(chains, gives) == len(chains) == giveAll {
 				leaveOut(owner, chains)
 			}
 		}
 	}
-	return ended, isRoom()
+	return leaving, isRoom()
 }
 
-// whyNotBeside returns why a sequence in transport form cannot be kept beside the others of its key: `known` if it is among them, `full` if they are as
-// many as a key may have, and otherwise an empty answer.
-func (c *chains) whyNotBeside(others []keptChain, text string) answer {
+// countOf returns for how many sequences `gives` is true, up to the first for which it is not.
+func countOf(chains []keptChain, gives func(chain *keptChain) bool) int {
+	for place := range chains {
+		if !gives(&chains[place]) {
+			return place
+		}
+	}
+	return len(chains)
+}
+
+// makeRoom is roomFor for a sequence at `now`: those that have ended give way and, only if that is not enough for one that isNamed, those that no list
+// names now. One that is found to be named is not asked about again. `writing` is held. It fails if f.isNamed does.
+func (f *folderChains) makeRoom(key string, chain keptChain, now time.Time) (leaving []keptFile, hasRoom bool, err error) {
+	leaving, hasRoom = f.roomFor(key, len(chain.text), func(other *keptChain) bool { return other.hasEnded(now) })
+	if hasRoom || !chain.isNamed {
+		return leaving, hasRoom, nil
+	}
+	leaving, hasRoom = f.roomFor(key, len(chain.text), func(other *keptChain) bool {
+		if err != nil || other.isNamed || other.hasEnded(now) {
+			return other.hasEnded(now)
+		}
+		var isNamed bool
+		isNamed, err = f.isNamed(other.text)
+		f.mutex.Lock()
+		defer f.mutex.Unlock()
+		other.isNamed = isNamed
+		return err == nil && !isNamed
+	})
+	return leaving, hasRoom && err == nil, err
+}
+
+// whyNotBeside returns why a sequence cannot be kept beside the others of its key: `known` if it is among them, `full` if they are as many as a key may
+// have and it is not one to which others give way, and otherwise an empty answer.
+func (c *chains) whyNotBeside(others []keptChain, chain keptChain) answer {
 	for _, other := range others {
-		if other.text == text {
+		if other.text == chain.text {
 			return answerKnown
 		}
 	}
-	if len(others) >= c.Each {
+	if len(others) >= c.Each && !chain.isNamed {
 		return answerFull
 	}
 	return ""
@@ -317,7 +358,7 @@ func (c *chains) chainOf(text string, from time.Time) keptChain {
 	if end, hasEnd := endOf(text); hasEnd && end.Before(until) {
 		until = end
 	}
-	return keptChain{text, hexDigest([]byte(text)), until}
+	return keptChain{text: text, name: hexDigest([]byte(text)), until: until}
 }
 
 // notAfter matches the field of a certificate, in canonical form, that says when its window ends.
@@ -346,32 +387,41 @@ func (f *folderChains) currentOf(key string, now time.Time) ([]keptChain, error)
 	return notEnded(f.byKey[key], now), nil
 }
 
-// whyNotAdded returns the answer to a sequence that add would not keep, or an empty one if add would keep it. It never fails. It removes nothing,
-// since the sequence is not verified yet.
+// whyNotAdded returns the answer to a sequence that add would not keep, or an empty one. Then add would keep it or, if it isNamed, may: others give way
+// to that one. It never fails. It removes nothing, since the sequence is not verified yet.
 func (f *folderChains) whyNotAdded(key string, chain keptChain, now time.Time) (answer, error) {
 	f.mutex.Lock()
 	defer f.mutex.Unlock()
-	if refusal := f.whyNotBeside(notEnded(f.byKey[key], now), chain.text); refusal != "" {
+	refusal := f.whyNotBeside(notEnded(f.byKey[key], now), chain)
+	if refusal != "" || chain.isNamed {
 		return refusal, nil
 	}
-	if _, hasRoom := f.roomFor(key, len(chain.text), now); !hasRoom {
+	if _, hasRoom := f.roomFor(key, len(chain.text), func(other *keptChain) bool { return other.hasEnded(now) }); !hasRoom {
 		return answerFull, nil
 	}
 	return "", nil
 }
 
 // add keeps a sequence for a key in a file and in memory, if there is room, and returns the answer to the client: `kept`, `known` or `full`, or
-// `failed` with an error if the file cannot be written. Where room was needed, it removes sequences that have ended, once the new file is written.
+// `failed` with an error if the file cannot be written, or if it is not known which sequences give way. Where room was needed, it removes those that
+// do, once the new file is written.
 func (f *folderChains) add(key string, chain keptChain, now time.Time) (answer, error) {
 	f.writing.Lock()
 	defer f.writing.Unlock()
 	if refusal, err := f.whyNotAdded(key, chain, now); refusal != "" {
 		return refusal, err
 	}
+	leaving, hasRoom, err := f.makeRoom(key, chain, now)
+	if err != nil {
+		return answerFailed, err
+	}
+	if !hasRoom {
+		return answerFull, nil
+	}
 	if err := f.write(key, chain); err != nil {
 		return answerFailed, err
 	}
-	f.remove(f.keepInMemory(key, chain, now)...)
+	f.remove(f.keepInMemory(key, chain, leaving)...)
 	return answerKept, nil
 }
 

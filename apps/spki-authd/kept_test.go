@@ -26,7 +26,7 @@ import (
 // newSiteWithChains returns a site at which clients can leave certificates, at most two sequences for each key, with a folder for them.
 func newSiteWithChains(t *testing.T) *site {
 	t.Helper()
-	s := newSite(t, `, "chains": {"folder": "`+t.TempDir()+`", "each": 2}`+withSignatures)
+	s := newSite(t, `, "limits": {"leave_rate": 1000}, "chains": {"folder": "`+t.TempDir()+`", "each": 2}`+withSignatures)
 	s.reopenChains(t)
 	return s
 }
@@ -34,7 +34,7 @@ func newSiteWithChains(t *testing.T) *site {
 // reopenChains reads the folder of kept certificates, as the daemon does at its start: files that are not needed are removed.
 func (s *site) reopenChains(t *testing.T) {
 	t.Helper()
-	opened, err := openFolderChains(s.config.Chains, s.now(), mayRemove)
+	opened, err := openFolderChains(s.config.Chains, s.isNamed, s.now(), mayRemove)
 	if err != nil {
 		t.Fatal(err)
 	}
@@ -276,6 +276,173 @@ func TestEndedIsNotKept(t *testing.T) {
 	}
 }
 
+// strangersSequence returns a sequence that Mallory has given a stranger, whom no list names either, and that stranger.
+func (s *site) strangersSequence(t *testing.T) (person, string) {
+	t.Helper()
+	stranger := newPerson(t)
+	return stranger, sequence(s.mallory.sign(s.mallory.certificate(stranger, prefixTag("read", "/web/"), "")))
+}
+
+// TestStrangersGiveWay has three strangers fill the room, which is for three keys. Then Bob, Carol and Dora leave what Alice gave them, whom the list
+// names: each takes the place of a stranger, and keeps it, also after a start, whoever leaves something then: a stranger, and a fourth whom Alice gave
+// something, for whom no room is left.
+func TestStrangersGiveWay(t *testing.T) {
+	s := newSiteWithChains(t)
+	s.config.Chains.Keys = 3
+	s.reopenChains(t)
+	leave := func(name string, who person, shown string, wanted answer) {
+		t.Helper()
+		if _, reply := s.leaveAs(t, who, shown); reply != wanted {
+			t.Errorf("%s: %s, wanted %s: %+v", name, reply, wanted, s.lastLine(t))
+		}
+	}
+	leaveAsStranger := func(name string, wanted answer) {
+		t.Helper()
+		stranger, shown := s.strangersSequence(t)
+		leave(name, stranger, shown, wanted)
+	}
+	for place := 0; place < 3; place++ {
+		leaveAsStranger("a stranger", answerKept)
+	}
+	leaveAsStranger("one too many", answerFull)
+	named := []person{s.bob, s.carol, newPerson(t)}
+	for place, who := range named {
+		leave("named", who, sequence(s.alice.sign(s.alice.certificate(who, prefixTag("read", "/web/docs/"), ""))), answerKept)
+		if files := s.filesOfChains(); len(files) != 3 {
+			t.Errorf("%d: %v", place, files)
+		}
+		leaveAsStranger("a stranger, later", answerFull)
+	}
+	for _, isStarted := range []bool{false, true} {
+		if isStarted {
+			s.reopenChains(t)
+		}
+		fourth := newPerson(t)
+		leave("a fourth", fourth, sequence(s.alice.sign(s.alice.certificate(fourth, prefixTag("read", "/web/"), ""))), answerFull)
+		leaveAsStranger("a stranger, at the end", answerFull)
+		for place, who := range named {
+			if status := s.statusFor(who, "/web/docs/b", ""); status != 200 || s.lastLine(t).Kept != "used" {
+				t.Errorf("%d: %d, %+v", place, status, s.lastLine(t))
+			}
+		}
+	}
+}
+
+// TestWhoGivesWay has room for two sequences of each of two keys. Of the texts those are named that begin with `n`. A row has the key and the text that are
+// added, the answer, and all texts that are kept afterwards, of which several may be possible. First an ended one gives way, then one of the same key
+// that is not named, then another key that has none that is named, and nothing else.
+func TestWhoGivesWay(t *testing.T) {
+	kept, now := newFolderChains(t, chains{Each: 2, Keys: 2}), time.Now()
+	kept.isNamed = func(text string) (bool, error) { return text[0] == 'n', nil }
+	for _, row := range []struct {
+		key, text string
+		wanted    answer
+		held      string
+	}{
+		{"a", "x1", answerKept, "x1"}, {"a", "x2", answerKept, "x1 x2"}, {"a", "x3", answerFull, "x1 x2"}, {"a", "n1", answerKept, "n1 x2"},
+		{"b", "x4", answerKept, "n1 x2 x4"}, {"c", "x5", answerFull, "n1 x2 x4"}, {"c", "n2", answerKept, "n1 n2 x2"}, {"b", "n3", answerFull, "n1 n2 x2"},
+		{"a", "n4", answerKept, "n1 n2 n4"}, {"a", "n5", answerFull, "n1 n2 n4"}, {"c", "x6", answerKept, "n1 n2 n4 x6"}, {"c", "n6", answerKept, "n1 n2 n4 n6"},
+		{"c", "n2", answerKnown, "n1 n2 n4 n6"}, {"c", "n7", answerFull, "n1 n2 n4 n6"}, {"d", "n8", answerFull, "n1 n2 n4 n6"},
+	} {
+		chain := kept.chainOf(row.text, now)
+		chain.isNamed, _ = kept.isNamed(row.text)
+		// (each ends after the one before it)
+		now = now.Add(time.Second)
+		if reply, err := kept.add(row.key, chain, now); reply != row.wanted || err != nil {
+			t.Errorf("%+v: %s, %v", row, reply, err)
+		}
+		if held := keptTexts(t, kept); held != row.held {
+			t.Errorf("%+v: %s", row, held)
+		}
+	}
+	ended := now.AddDate(0, 0, 10)
+	chain := kept.chainOf("n9", ended)
+	chain.isNamed = true
+	if reply, err := kept.add("d", chain, ended); reply != answerKept || err != nil {
+		t.Error(reply, err)
+	}
+}
+
+// TestNobodyGivesWayUnknown has the lists not answer, as where a store is stale: nothing that is kept gives way, and the answer to what a list named
+// before is `failed`.
+func TestNobodyGivesWayUnknown(t *testing.T) {
+	kept, now := newFolderChains(t, chains{Each: 1, Keys: 1}), time.Now()
+	mustAdd(t, kept, "a", "a1", now, answerKept)
+	kept.isNamed = func(string) (bool, error) { return false, errStale }
+	chain := kept.chainOf("b1", now)
+	chain.isNamed = true
+	if reply, err := kept.add("b", chain, now); reply != answerFailed || err != errStale || keptTexts(t, kept) != "a1" {
+		t.Errorf("%s, %v, %s", reply, err, keptTexts(t, kept))
+	}
+}
+
+// TestWhomListsName reads a list with entries for Alice in several forms, beside others, and asks whether it names the first issuer of a sequence: Alice
+// by her key, a hash, and a name of hers, and nobody else, also where the sequence has a later certificate of hers.
+func TestWhomListsName(t *testing.T) {
+	s := newSiteWithChains(t)
+	tag, hash := "(3:tag(1:*))", s.alice.hashOfKey()
+	other := "(5:entry" + s.carol.key + tag + ")"
+	digest := sha512.Sum512([]byte(s.alice.key))
+	lists := map[string]string{}
+	for name, subject := range map[string]string{
+		"a key": s.alice.key, "a hash": hash, "another hash": "(4:hash6:sha512" + str(string(digest[:])) + ")",
+		"a hash and an address": strings.TrimSuffix(hash, ")") + "(3:uri1:x))", "a name": "(4:name" + s.alice.key + "1:x)",
+		"a name of a hash": "(4:name" + hash + "1:x1:y)",
+	} {
+		lists[name] = "(3:acl" + other + "(5:entry" + subject + tag + ")" + other + ")"
+	}
+	lists["a version"] = "(3:acl(7:version1:0)(5:entry" + s.alice.key + tag + "))"
+	lists["another form"] = "(acl (entry " + s.alice.key + " (tag (*))))"
+	toBob, toName := s.alice.sign(s.toBob), s.alice.signedNameCertificate("x", s.bob.key)
+	byMallory := s.mallory.sign(s.mallory.certificate(s.alice, prefixTag("read", "/"), propagates))
+	for name, text := range lists {
+		s.config.List = writeFile(t, "acl", text)
+		s.mustReload(t)
+		for place, row := range []struct {
+			shown  string
+			wanted bool
+		}{{sequence(toBob), true}, {sequence(toName, toBob), true}, {sequence(s.mallory.key, toBob), true}, {sequence(byMallory, toBob), false}, {sequence(), false}} {
+			if isNamed, err := s.isNamed(row.shown); isNamed != row.wanted || err != nil {
+				t.Errorf("%s, %d: %v, %v", name, place, isNamed, err)
+			}
+		}
+	}
+	if _, err := s.isNamed(noSequence); err == nil {
+		t.Error("no sequence is read")
+	}
+}
+
+// TestLeaveRate leaves certificates at one moment, from two addresses and from one that the web server does not say: twenty of each, by the usual rate,
+// and one more three seconds later. Requests that leave nothing are not counted.
+func TestLeaveRate(t *testing.T) {
+	s := newSite(t, `, "chains": {"folder": "`+t.TempDir()+`"}`+withSignatures)
+	s.reopenChains(t)
+	fixed := time.Now()
+	s.now = func() time.Time { return fixed }
+	bobs, _ := s.sequencesShown()
+	for _, address := range []string{"192.0.2.1", "2001:db8::1", ""} {
+		for turn := 0; turn < 25; turn++ {
+			if turn == 22 {
+				fixed = fixed.Add(3 * time.Second)
+			}
+			request := s.bob.putRequest(t, usualPath, bobs)
+			if address != "" {
+				request.Header.Set("X-Real-Ip", address)
+			}
+			isAllowed := turn < 20 || turn == 22
+			if response := s.respond(request); (response.StatusCode == 201) != isAllowed || (response.StatusCode == 429) == isAllowed {
+				t.Errorf("%q, %d: %d", address, turn, response.StatusCode)
+			}
+			if line := s.lastLine(t); !isAllowed && (line.Address != address || !strings.Contains(line.Reason, "leave_rate")) {
+				t.Errorf("%+v", line)
+			}
+		}
+		if status := s.statusFor(s.alice, "/web/x", ""); status != 200 {
+			t.Error(status)
+		}
+	}
+}
+
 // TestStrangersLeave has strangers leave certificates that Mallory gave them. Once there is no room for another key, they are answered by `full`, and no
 // signature is verified. None of them grants anything, and a request that shows certificates is decided by these as before. Without room for more octets
 // the answer is `full` too.
@@ -285,8 +452,7 @@ func TestStrangersLeave(t *testing.T) {
 	s.reopenChains(t)
 	verified := s.counts.verified.Load()
 	for place, wanted := range []answer{answerKept, answerKept, answerFull, answerFull} {
-		stranger := newPerson(t)
-		shown := sequence(s.mallory.sign(s.mallory.certificate(stranger, prefixTag("read", "/web/"), "")))
+		stranger, shown := s.strangersSequence(t)
 		if _, reply := s.leaveAs(t, stranger, shown); reply != wanted {
 			t.Errorf("%d: %s, wanted %s", place, reply, wanted)
 		}
@@ -308,12 +474,15 @@ func TestStrangersLeave(t *testing.T) {
 	}
 }
 
+// noneIsNamed says that no list names the first issuer of a sequence.
+func noneIsNamed(string) (bool, error) { return false, nil }
+
 // newFolderChains returns the chainKeeper of a new, empty folder. A sequence that its chainOf returns ends after nine days at the latest. It keeps at
 // most limits.Each sequences of a key, and those of at most limits.Keys keys.
 func newFolderChains(t *testing.T, limits chains) *folderChains {
 	t.Helper()
 	limits.Folder, limits.Days = t.TempDir(), 9
-	kept, err := openFolderChains(&limits, time.Now(), mayRemove)
+	kept, err := openFolderChains(&limits, noneIsNamed, time.Now(), mayRemove)
 	if err != nil {
 		t.Fatal(err)
 	}
@@ -382,7 +551,7 @@ func TestClockAhead(t *testing.T) {
 		days, count int
 		held        string
 	}{{17, 1, "a1 b1"}, {19, 0, ""}} {
-		started, err := openFolderChains(&kept.chains, now.AddDate(0, 0, row.days), mayRemove)
+		started, err := openFolderChains(&kept.chains, kept.isNamed, now.AddDate(0, 0, row.days), mayRemove)
 		if err != nil {
 			t.Fatal(err)
 		}
@@ -461,7 +630,7 @@ func TestEndedAtStart(t *testing.T) {
 		}
 		kept.Keys = 1
 		for _, mayRemove := range []bool{false, true} {
-			started, err := openFolderChains(&kept.chains, now, mayRemove)
+			started, err := openFolderChains(&kept.chains, kept.isNamed, now, mayRemove)
 			if err != nil {
 				t.Fatal(err)
 			}
@@ -616,7 +785,7 @@ func TestKeptChainsEnd(t *testing.T) {
 	// (days, and how many sequences are kept then: one for its ten days, and one for the usual ninety. Nothing is removed, as by -test)
 	for _, row := range [][2]int{{9, 2}, {11, 1}, {89, 1}, {91, 0}} {
 		now := begun.AddDate(0, 0, row[0])
-		opened, err := openFolderChains(s.config.Chains, now, !mayRemove)
+		opened, err := openFolderChains(s.config.Chains, s.isNamed, now, !mayRemove)
 		if err != nil {
 			t.Fatal(err)
 		}
@@ -629,7 +798,7 @@ func TestKeptChainsEnd(t *testing.T) {
 	}
 	// (days, and how many files a start leaves then: each stays for ninety days after its end)
 	for _, row := range [][2]int{{99, 2}, {101, 1}} {
-		if _, err := openFolderChains(s.config.Chains, begun.AddDate(0, 0, row[0]), mayRemove); err != nil || len(s.filesOfChains()) != row[1] {
+		if _, err := openFolderChains(s.config.Chains, s.isNamed, begun.AddDate(0, 0, row[0]), mayRemove); err != nil || len(s.filesOfChains()) != row[1] {
 			t.Error(row, err, s.filesOfChains())
 		}
 	}
@@ -739,7 +908,7 @@ func TestForeignFiles(t *testing.T) {
 	if err := os.Chmod(s.config.Chains.Folder, 0o777); err != nil {
 		t.Fatal(err)
 	}
-	if _, err := openFolderChains(s.config.Chains, s.now(), !mayRemove); err == nil {
+	if _, err := openFolderChains(s.config.Chains, s.isNamed, s.now(), !mayRemove); err == nil {
 		t.Error("others may write the folder")
 	}
 }

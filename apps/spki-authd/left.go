@@ -103,7 +103,8 @@ func sequenceInBody(body []byte) (string, error) {
 
 // keepCertificates keeps the certificates that a client leaves, and returns the record with the answer. `key` is the one that has signed the request, by
 // `proof`. Strangers can leave certificates too, of keys that they made. So the nonces of these requests have a memory apart, which strangers may fill
-// without harm to other requests, and no signature of a certificate is verified where the sequence is known or has no room.
+// without harm to other requests, and what no list names gives way to what a list names. No signature of a certificate is verified where the sequence is
+// known, or is not named and has no room.
 func (d *decider) keepCertificates(result record, key guard.ProvenKey, proof *httpsig.Proof, inquiry *inquiry) record {
 	result.Target = inquiry.target
 	if err := d.requests.leaving.Take(proof); err != nil {
@@ -114,6 +115,9 @@ func (d *decider) keepCertificates(result record, key guard.ProvenKey, proof *ht
 		return result.withReason(answerRefused, errPast)
 	}
 	var err error
+	if chain.isNamed, err = d.isNamed(inquiry.sequence); err != nil {
+		return result.withReason(answerOf(err), err)
+	}
 	if result.Answer, err = d.chains.whyNotAdded(result.Key, chain, d.now()); err != nil {
 		return result.withReason(answerFailed, err)
 	}

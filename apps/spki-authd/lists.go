@@ -29,8 +29,11 @@ type list struct {
 	digest string
 	// What reads the store of a list in a store, and otherwise nil.
 	store *store
-	// Of a part, the numbers of its entries in the store, in their order.
-	numbers []int
+	// Of a list in a file, what its entries are found by. Of a part, the numbers of its entries in the store, in their order, and how many rows were
+	// skipped.
+	principals map[string]struct{}
+	numbers    []int
+	skipped    int
 	// Whether it is a part that the store does not keep: whoever has called store.list closes the guard after one question.
 	isPassing bool
 }
@@ -113,5 +116,31 @@ func readList(path string, policy guard.Policy, limits limits) (*list, error) {
 	if err != nil {
 		return nil, fmt.Errorf("%s: %w", path, err)
 	}
-	return &list{guard: opened, digest: hexDigest(octets)}, nil
+	principals, err := principalsIn(octets)
+	if err != nil {
+		opened.Close()
+		return nil, fmt.Errorf("%s: %w", path, err)
+	}
+	return &list{guard: opened, principals: principals, digest: hexDigest(octets)}, nil
+}
+
+// names says whether an entry of a list in a file or in a store is for a key in canonical form, for its hash, or for a name that begins with one of them.
+// It fails if the store is stale or cannot be read.
+func (l *list) names(key []byte) (isNamed bool, err error) {
+	if l.store != nil {
+		part, err := l.store.listFor(key)
+		if err != nil {
+			return false, err
+		}
+		if part.isPassing {
+			part.guard.Close()
+		}
+		return len(part.numbers) > 0, nil
+	}
+	for _, digest := range digestsOf(key) {
+		if _, isThere := l.principals[string(digest)]; isThere {
+			return true, nil
+		}
+	}
+	return false, nil
 }

@@ -38,6 +38,7 @@ func (r *record) line(room []byte) []byte {
 	line.addNumber("cached", int64(r.Cached), optional)
 	line.addNumber("unverified", int64(r.Unverified), optional)
 	line.addText("list", r.List, optional)
+	line.addNumber("skipped", int64(r.Skipped), optional)
 	line.addText("reason", r.Reason, optional)
 	line.addText("reasons", r.Reasons, optional)
 	line.addText("target", r.Target, optional)

@@ -19,7 +19,7 @@ func TestLinesOfRecords(t *testing.T) {
 			for _, list := range [][]string{nil, {}, {text}, {text, "", text}} {
 				record := record{
 					Time: text, ID: text, Answer: answer(text), Status: number, Key: text, Request: list, Entry: number, Certificates: list, Cached: number,
-					Unverified: number, List: text, Reason: text, Reasons: text, Target: text, Microseconds: int64(number), Host: text, Address: text,
+					Unverified: number, List: text, Skipped: number, Reason: text, Reasons: text, Target: text, Microseconds: int64(number), Host: text, Address: text,
 				}
 				wanted, err := json.Marshal(record)
 				if line := string(record.line(nil)); err != nil || line != string(wanted)+"\n" {

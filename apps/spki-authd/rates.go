@@ -1,6 +1,6 @@
 package main
 
-// How often a client may ask: a rate for each key and one for each address.
+// How often a client may ask: a rate for each key and one for each address, and another one for each address that leaves certificates.
 
 import (
 	"net/netip"
@@ -8,12 +8,12 @@ import (
 	"time"
 )
 
-// A rateLimiter says how often each key, or each address, may ask: perSecond times a second, and at first or after a pause up to savedSeconds times that
-// at once. A key that has not asked for long is forgotten, and may then ask as at first.
+// A rateLimiter says how often each key, or each address, may ask: perSecond times a second, and at first or after a pause `most` times at once. A key
+// that has not asked for long is forgotten, and may then ask as at first.
 type rateLimiter struct {
-	mutex     sync.Mutex
-	perSecond float64
-	buckets   *recentMap[string, *bucket]
+	mutex           sync.Mutex
+	perSecond, most float64
+	buckets         *recentMap[string, *bucket]
 }
 
 // A bucket has how many requests a key or an address may still make at once, as of a moment.
@@ -22,7 +22,7 @@ type bucket struct {
 	at   time.Time
 }
 
-// The most keys or addresses that are remembered, and for how many seconds of a pause the requests may be made later.
+// The most keys or addresses that are remembered, and for how many seconds of a pause the requests may be made later where a rate is one a second.
 const (
 	mostBuckets  = 20_000
 	savedSeconds = 2
@@ -33,7 +33,12 @@ const bitsOfClient = 64
 
 // newRateLimiter returns a limiter to so many requests a second of each caller. With 0 it allows each request.
 func newRateLimiter(perSecond int) *rateLimiter {
-	return &rateLimiter{perSecond: float64(perSecond), buckets: newRecentMap[string, *bucket](mostBuckets)}
+	return &rateLimiter{perSecond: float64(perSecond), most: savedSeconds * float64(perSecond), buckets: newRecentMap[string, *bucket](mostBuckets)}
+}
+
+// newMinuteLimiter returns a limiter to so many requests a minute of each caller, who may make all of a minute at once. `perMinute` is at least 1.
+func newMinuteLimiter(perMinute int) *rateLimiter {
+	return &rateLimiter{perSecond: float64(perMinute) / 60, most: float64(perMinute), buckets: newRecentMap[string, *bucket](mostBuckets)}
 }
 
 // allows says whether a caller, by its key or its address, may make one more request at a moment, and counts that request if so. When the clock
@@ -46,7 +51,7 @@ func (r *rateLimiter) allows(caller string, now time.Time) bool {
 	defer r.mutex.Unlock()
 	allowance, isKnown := r.buckets.get(caller)
 	if !isKnown {
-		allowance = &bucket{left: savedSeconds * r.perSecond, at: now}
+		allowance = &bucket{left: r.most, at: now}
 		r.buckets.add(caller, allowance)
 	}
 	pause := now.Sub(allowance.at).Seconds()
@@ -57,8 +62,8 @@ func (r *rateLimiter) allows(caller string, now time.Time) bool {
 	if pause > 0 || pause < -1 {
 		allowance.at = now
 	}
-	if allowance.left > savedSeconds*r.perSecond {
-		allowance.left = savedSeconds * r.perSecond
+	if allowance.left > r.most {
+		allowance.left = r.most
 	}
 	if allowance.left < 1 {
 		return false

@@ -27,8 +27,9 @@ const (
 )
 
 // A record is one decision: the line of the log, and the answer to the web server. It has no key and no certificate, but their digests. Cached counts
-// the signatures that were known to be valid, and Unverified those that were not verified since they could change nothing. Reason is the fault that
-// the daemon has found, and Reasons is what `explain` notes of a denial. Kept is `used` where a guard has granted the request by certificates that
+// the signatures that were known to be valid, and Unverified those that were not verified since they could change nothing. Skipped counts the rows of
+// a store that are not one entry of the principal that was read. Reason is the fault that the daemon has found, and Reasons is what `explain` notes of a
+// denial. Kept is `used` where a guard has granted the request by certificates that
 // were left. If none of them grants it, Certificates has the last that were tried. Address is noted only where it asks too often, and Target only
 // where there is no Request.
 type record struct {
@@ -47,6 +48,7 @@ type record struct {
 	Cached       int      `json:"cached,omitempty"`
 	Unverified   int      `json:"unverified,omitempty"`
 	List         string   `json:"list,omitempty"`
+	Skipped      int      `json:"skipped,omitempty"`
 	Reason       string   `json:"reason,omitempty"`
 	Reasons      string   `json:"reasons,omitempty"`
 	Target       string   `json:"target,omitempty"`
@@ -77,7 +79,7 @@ func (r record) withReason(answer answer, fault error) record {
 // noteSequence notes the list by which a question is decided, and the certificates of its sequence. `notEnded` is how many of these precede the first that
 // has ended early, or the number of all. If one has ended, that is the reason, and those behind it are left out.
 func (r *record) noteSequence(list *list, sequence *shownSequence, notEnded int) {
-	r.List, r.numbers, r.Certificates, r.mayCount = list.digest, list.numbers, sequence.names, notEnded
+	r.List, r.numbers, r.Skipped, r.Certificates, r.mayCount = list.digest, list.numbers, list.skipped, sequence.names, notEnded
 	if notEnded < len(sequence.names) {
 		r.Certificates = sequence.names[:notEnded+1]
 		r.Reason = "certificate " + sequence.names[notEnded] + " has ended"

@@ -89,7 +89,7 @@ func start(words words, out, messages io.Writer) error {
 func openDecider(config *config, mayRemove bool) (*decider, error) {
 	decider := newDecider(config)
 	var err error
-	if decider.chains, err = openChains(config, decider.now(), mayRemove); err != nil {
+	if decider.chains, err = openChains(config, decider.isNamed, decider.now(), mayRemove); err != nil {
 		return nil, err
 	}
 	// (the first reload: no certificate has ended before it, so it does not matter whether fewer may have)
@@ -101,7 +101,7 @@ func newDecider(config *config) *decider {
 	decider := &decider{
 		config: config, keys: newKeys(config.CertificateForm), cache: newCache(*config.Cache), sequences: newSequences(*config.Cache), now: time.Now,
 		counts: newCounts(len(config.Requests)), byKey: newRateLimiter(config.Limits.KeyRate), byAddress: newRateLimiter(config.Limits.AddressRate),
-		explanations: newRateLimiter(config.Limits.ExplainRate), verify: verify.Signature,
+		byLeaving: newMinuteLimiter(config.Limits.LeaveRate), explanations: newRateLimiter(config.Limits.ExplainRate), verify: verify.Signature,
 	}
 	decider.requests = newRequestVerifier(config, func() time.Time { return decider.now() })
 	return decider

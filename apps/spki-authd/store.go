@@ -65,18 +65,22 @@ type reader interface {
 }
 
 // A storeState is a state of the store: the number of its last change, the time of that change, which tells one history from another, and the number
-// and the time of the last beat, which `spki-store beat` writes each second. Times are in microseconds since 1970.
+// and the time of the last beat, which `spki-store beat` writes each second. Times are in microseconds since 1970. Only a poll reads the last three,
+// which that program also writes: how many seconds a change has waited for a holder, or 0, who that is, and how many of them were ended in all.
 type storeState struct {
 	changes, token, beat, beaten int64
+	waits, holdersEnded          int64
+	holder                       string
 }
 
-// entryRows are entries in the order of their numbers: the numbers, the texts, each that of one entry in canonical form if the database is right, and
-// how many octets the texts have together.
+// entryRows are rows in the order of their numbers: the numbers, the texts, each that of one entry in canonical form if the database is right, and how
+// many octets the texts have together. `skipped` counts the rows that are none, and are left out.
 type entryRows struct {
 	storeState
 	numbers []int
 	texts   [][]byte
 	size    int
+	skipped int
 }
 
 // A pollResult is what `changesSince` or `allEnded` returns. Of changes, `changed` has the digests of the keys whose entries have changed, and
@@ -101,25 +105,27 @@ type polledState struct {
 }
 
 // storeCounts count the questions whose entries were kept, those whose entries the database was asked for, and those of which noteRead has got an
-// error. misses include failures.
+// error. misses include failures. skipped counts rows that were read and left out, each time.
 type storeCounts struct {
-	hits, misses, failures uint64
+	hits, misses, failures, skipped uint64
 }
 
 // The time between two polls, and by how much the clock of the database's server may be ahead of the daemon's.
 const (
 	pollEvery = 250 * time.Millisecond
 	mostAhead = time.Second
-	// The most entries of one principal.
-	mostRows = 10_000
+	// The most rows of one principal, and the most octets of them and of its entries: openRows gives those to `open`, which puts them into `(3:acl ..)`.
+	mostRows   = 10_000
+	mostRead   = 4 * mostList
+	mostJoined = mostList - len("(3:acl)")
 )
 
 var (
 	errStale   = errors.New("the store is stale")
 	errNever   = errors.New("the store was not read yet")
 	errOlder   = errors.New("the store answers with an older state than before")
-	errMany    = fmt.Errorf("one principal has over %d entries or over 1 MiB of them", mostRows)
-	errHostile = errors.New("a row of the store is not one entry: `spki-store check` says which")
+	errMany    = fmt.Errorf("one principal has over %d rows, over 4 MiB of them or over 1 MiB of entries", mostRows)
+	errHostile = errors.New("the entries of one principal are no list")
 )
 
 // newStore returns a store that was not polled yet. `open` opens a list of entries in canonical form, one behind the other. `now` is the clock. It fails
@@ -133,13 +139,18 @@ func newStore(options *storeSettings, reader reader, open func(list []byte) (*gu
 		kept: newKeptLists(*options.CacheMiB << 20), unpolled: map[digest]storeState{}, ended: map[digest]struct{}{}, fault: errNever}, nil
 }
 
-// list returns a list of the entries that a question can need: one that is kept, or a new one. The caller closes its guard if it isPassing. It fails as
-// keyOf and read do, and if the store is stale before the entries are read or afterwards.
+// list returns a list of the entries that a question can need: that of listFor for its key. It fails as keyOf and listFor do.
 func (s *store) list(question *guard.Question) (*list, error) {
 	key, err := s.keyOf(question)
 	if err != nil {
 		return nil, err
 	}
+	return s.listFor(key)
+}
+
+// listFor returns a list of the entries for a key in canonical form: one that is kept, or a new one. The caller closes its guard if it isPassing. It
+// fails as read does, and if the store is stale before the entries are read or afterwards.
+func (s *store) listFor(key []byte) (*list, error) {
 	if err := s.checkFresh(); err != nil {
 		return nil, err
 	}
@@ -181,21 +192,13 @@ func (s *store) keyOf(question *guard.Question) ([]byte, error) {
 	return []byte(first), nil
 }
 
-// firstKeyIn returns the key by which the first listed signature of a question is made, or an empty text if none is listed. It fails with the library's
-// refusal, or with errBusy.
-func (s *store) firstKeyIn(question *guard.Question) (first string, err error) {
+// firstKeyIn is firstKeyIn by the guard without entries. It also fails with errBusy.
+func (s *store) firstKeyIn(question *guard.Question) (string, error) {
 	if err := library.enter(); err != nil {
 		return "", err
 	}
 	defer library.leave()
-	opened, err := s.empty.Ask(*question)
-	if err != nil {
-		return "", err
-	}
-	defer opened.Close()
-	// (with false Each ends after the first)
-	err = opened.Each(func(_ int, signature guard.Signature) bool { first = string(signature.Key); return false })
-	return first, err
+	return firstKeyIn(s.empty, question)
 }
 
 // read reads the entries for a key from the database, and returns the list of them. `keyDigest` is the key's digest. The list is kept if it is not
@@ -211,12 +214,13 @@ func (s *store) read(keyDigest digest, key []byte) (*list, error) {
 	if rows.changes < before.changes || rows.beat < before.beat {
 		return nil, errOlder
 	}
-	opened, err := s.openRows(rows)
+	opened, err := s.openRows(rows, digests)
 	if err != nil {
 		return nil, err
 	}
 	s.mutex.Lock()
 	defer s.mutex.Unlock()
+	s.count.skipped += uint64(opened.skipped)
 	isLater := rows.changes > s.polled.changes
 	isPresent := s.polled.history == before.history && (isLater || rows.changes == s.polled.changes && rows.token == s.polled.token)
 	opened.isPassing = !isPresent || !s.kept.add(keyDigest, digests, opened, rows.size)
@@ -226,44 +230,89 @@ func (s *store) read(keyDigest digest, key []byte) (*list, error) {
 	return opened, nil
 }
 
-// add adds an entry, with a copy of its text. It fails with errMany if that makes too many entries, or too many octets for one list. The reader then
-// reads no further row: nobody can fill the memory by adding entries.
+// add adds a row, with a copy of its text. It fails with errMany if that makes too many rows, or too many octets. The reader then reads no further row:
+// nobody can fill the memory by adding rows.
 func (r *entryRows) add(number int, text []byte) error {
 	r.size += len(text)
-	// (openRows gives the texts to `open`, which puts them into `(3:acl ..)`)
-	if len(r.numbers) == mostRows || r.size > mostList-len("(3:acl)") {
+	if len(r.numbers) == mostRows || r.size > mostRead {
 		return errMany
 	}
 	r.numbers, r.texts = append(r.numbers, number), append(r.texts, append([]byte(nil), text...))
 	return nil
 }
 
-// openRows returns the list of entries that were read. It fails with errHostile if a row does not begin as an entry, if there are more or fewer
-// entries than rows, or if the library refuses the list; with guard.ErrMemory; and with errBusy if too many questions are decided at once.
-func (s *store) openRows(rows entryRows) (*list, error) {
-	joined := make([]byte, 0, rows.size)
-	for _, text := range rows.texts {
-		if !bytes.HasPrefix(text, []byte("(5:entry")) {
-			return nil, errHostile
-		}
-		joined = append(joined, text...)
-	}
+// openRows returns the list of the entries among rows that were read for a key, by the digests that digestsOf returns for it. Entries only grant, so it
+// leaves out, and counts, each row that is not exactly one entry for this key: it could not only make the library refuse the list, but also join with
+// other rows into an entry of another meaning. It fails with errMany if the entries are too long together, with errHostile if the library refuses them
+// together, with guard.ErrMemory, and with errBusy if too many questions are decided at once.
+func (s *store) openRows(rows entryRows, digests [][]byte) (*list, error) {
 	if err := library.enter(); err != nil {
 		return nil, err
 	}
 	defer library.leave()
-	opened, err := s.open(joined)
+	entries, err := s.entriesAmong(rows, digests)
+	if err != nil {
+		return nil, err
+	}
+	if entries.size > mostJoined {
+		return nil, errMany
+	}
+	opened, err := s.open(bytes.Join(entries.texts, nil))
 	if errors.Is(err, guard.ErrRefused) && !errors.Is(err, guard.ErrMemory) {
+		// (each of them alone was read. It is no fault of the client's, whose request the other refusals are about)
 		err = fmt.Errorf("%w: %v", errHostile, err)
 	}
 	if err != nil {
 		return nil, err
 	}
-	if opened.Entries() != len(rows.numbers) {
-		opened.Close()
-		return nil, errHostile
+	return &list{guard: opened, numbers: entries.numbers, skipped: entries.skipped, digest: fmt.Sprintf("change %d", rows.changes)}, nil
+}
+
+// entriesAmong returns those of the rows that are exactly one entry each for the key with these digests, and how many others there are. It fails with
+// guard.ErrMemory. The caller has entered the gate `library`.
+func (s *store) entriesAmong(rows entryRows, digests [][]byte) (entries entryRows, err error) {
+	for place, text := range rows.texts {
+		isEntry, err := s.isEntry(text)
+		if err != nil {
+			return entries, err
+		}
+		if !isEntry || !isAmong(foundBy(text), digests) {
+			entries.skipped++
+			continue
+		}
+		entries.size += len(text)
+		entries.numbers, entries.texts = append(entries.numbers, rows.numbers[place]), append(entries.texts, text)
 	}
-	return &list{guard: opened, numbers: rows.numbers, digest: fmt.Sprintf("change %d", rows.changes)}, nil
+	return entries, nil
+}
+
+// isEntry says whether a text alone is exactly one entry in canonical form, as the library reads it. It fails with guard.ErrMemory.
+func (s *store) isEntry(text []byte) (bool, error) {
+	if !bytes.HasPrefix(text, []byte("(5:entry")) || len(text) > mostJoined {
+		return false, nil
+	}
+	canonical, err := guard.Canonical(text)
+	if err == nil && bytes.Equal(canonical, text) {
+		var alone *guard.Guard
+		if alone, err = s.open(text); err == nil {
+			defer alone.Close()
+			return alone.Entries() == 1, nil
+		}
+	}
+	if err != nil && (errors.Is(err, guard.ErrMemory) || !errors.Is(err, guard.ErrRefused)) {
+		return false, err
+	}
+	return false, nil
+}
+
+// isAmong says whether a digest is one of several.
+func isAmong(digest []byte, digests [][]byte) bool {
+	for _, each := range digests {
+		if bytes.Equal(digest, each) {
+			return true
+		}
+	}
+	return false
 }
 
 // digestsOf returns three digests of a key, which is in canonical form: by SHA-1, SHA-256 and SHA-512, in this order. In the database the principal

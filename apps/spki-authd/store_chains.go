@@ -50,11 +50,14 @@ func (s *storedChains) currentOf(key string, now time.Time) ([]keptChain, error)
 }
 
 // whyNotAdded returns `known` or `full` for a sequence that has no place beside those that currentOf returns for its key, and otherwise an empty answer:
-// add may then still refuse it. What currentOf returns may be cached, and only the store knows whether there is room for one more key. It fails if the
-// store does not answer.
+// add may then still refuse it. What currentOf returns may be cached, and only the store knows whether there is room for one more key. Of a sequence that
+// isNamed the store decides all: it notes that also of one that it has. It fails if the store does not answer.
 func (s *storedChains) whyNotAdded(key string, chain keptChain, now time.Time) (answer, error) {
+	if chain.isNamed {
+		return "", nil
+	}
 	others, err := s.currentOf(key, now)
-	return s.whyNotBeside(others, chain.text), err
+	return s.whyNotBeside(others, chain), err
 }
 
 // add has the store keep a sequence for a key, and returns its answer: `kept`, `known` or `full`, or `failed` with an error, also where the store

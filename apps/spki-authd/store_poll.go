@@ -83,14 +83,17 @@ func (s *store) statusLine() (string, error) {
 	if err == nil {
 		err = s.fault
 	}
+	if err == nil && s.polled.waits > 0 {
+		err = fmt.Errorf("a change of the store has waited %d s for %s", s.polled.waits, s.polled.holder)
+	}
 	age := "not read yet"
 	if !s.polled.at.IsZero() {
 		// (checkFresh has returned the error of this)
 		sinceBeat, _ := s.polled.age(s.now())
 		age = fmt.Sprintf("%.1f s old", sinceBeat.Seconds())
 	}
-	return fmt.Sprintf("store: change %d, beat %d, %s, ended %d, kept %d keys in %d octets, read %d times, not read %d\n", s.polled.changes,
-		s.polled.beat, age, len(s.ended), s.kept.count(), s.kept.size, s.count.misses, s.count.failures), err
+	return fmt.Sprintf("store: change %d, beat %d, %s, ended %d, kept %d keys in %d octets, read %d times, not read %d, skipped rows %d\n",
+		s.polled.changes, s.polled.beat, age, len(s.ended), s.kept.count(), s.kept.size, s.count.misses, s.count.failures, s.count.skipped), err
 }
 
 // stamp returns a text by which states of a list are compared: the digest of a file, or `change-NUMBER-TIME` of the last change of a store that was
@@ -120,8 +123,14 @@ var storeFamilies = []struct {
 }{
 	{"store_stale", "gauge", "1 if the store is stale, and each decision by it 503.", func(s *store) any { return oneIf(s.checkFresh() != nil) }},
 	{"store_change", "gauge", "The number of the last change that was polled.", func(s *store) any { return s.lastPolled().changes }},
+	{"store_change_waits_seconds", "gauge", "How long a change has waited for somebody who holds it up, or 0.",
+		func(s *store) any { return s.lastPolled().waits }},
+	{"store_holders_ended_total", "counter", "How many of those who held changes up spki-store beat has ended.",
+		func(s *store) any { return s.lastPolled().holdersEnded }},
 	{"store_rows_kept_total", "counter", "Decisions by rows that were kept.", func(s *store) any { return s.countsNow().hits }},
 	{"store_rows_read_total", "counter", "Decisions whose rows were read.", func(s *store) any { return s.countsNow().misses }},
+	{"store_rows_skipped_total", "counter", "Rows that were read and skipped, since each is not one entry of its principal.",
+		func(s *store) any { return s.countsNow().skipped }},
 	{"store_rows_failed_total", "counter", "Decisions that failed since their rows could not be read.", func(s *store) any { return s.countsNow().failures }},
 }
 

@@ -72,7 +72,9 @@ const (
 	stateColumns = "s.version, s.changes, b.number, (extract(epoch FROM b.moment) * 1000000)::bigint"
 	stateTables  = "@.state s JOIN @.heartbeat b ON s.one AND b.one"
 	microseconds = "(extract(epoch FROM c.moment) * 1000000)::bigint"
-	lastChange   = " LEFT JOIN @.changes c ON c.number = s.changes"
+	// What a poll reads last in a row, and how many columns that are.
+	holderColumns, countOfHolder = ", b.waits, b.holder, b.ended", 3
+	lastChange                   = " LEFT JOIN @.changes c ON c.number = s.changes"
 )
 
 // openReader returns what reads a store. A call takes no longer than `patience`, and waits no longer than half of that for a free connection. A poll
@@ -93,13 +95,13 @@ func openReader(options *storeSettings, patience time.Duration) (reader, error) 
 		askRows: "SELECT " + stateColumns + ", " + microseconds + ", e.number, e.text FROM " + stateTables + lastChange + " LEFT JOIN LATERAL (" +
 			rowsOf(sha1.Size, 1) + " UNION ALL " + rowsOf(sha256.Size, 2) + " UNION ALL " + rowsOf(sha512.Size, 3) +
 			fmt.Sprintf(" LIMIT %d) e ON true ORDER BY e.number", mostRows+1),
-		askChangesSince: "SELECT " + stateColumns + ", c.number, " + microseconds + ", c.what, c.digest FROM " + stateTables +
+		askChangesSince: "SELECT " + stateColumns + ", c.number, " + microseconds + ", c.what, c.digest" + holderColumns + " FROM " + stateTables +
 			fmt.Sprintf(" LEFT JOIN LATERAL (SELECT * FROM (SELECT number, moment, what, digest FROM @.changes WHERE number >= $1 ORDER BY number LIMIT %d) l)"+
 				" c ON true ORDER BY c.number", mostChanges+2),
-		askAllEnded: "SELECT " + stateColumns + ", " + microseconds + ", e.certificate FROM " + stateTables + lastChange +
+		askAllEnded: "SELECT " + stateColumns + ", " + microseconds + ", e.certificate" + holderColumns + " FROM " + stateTables + lastChange +
 			" LEFT JOIN @.ended e ON true",
 		askChains: "SELECT text, (extract(epoch FROM until) * 1000000)::bigint FROM @.chains WHERE key = $1 ORDER BY until, digest",
-		askKeep:   "SELECT @.keep($1, $2, $3, $4, $5)",
+		askKeep:   "SELECT @.keep($1, $2, $3, $4, $5, $6)",
 	} {
 		// (`@` is the schema, whose name was checked. It is in quotes, since it may be a reserved word of SQL such as user)
 		opened.texts[ask] = strings.ReplaceAll(text, "@", pq.QuoteIdentifier(options.Schema))
@@ -247,6 +249,16 @@ func stateIn(row []driver.Value) (storeState, error) {
 	return storeState{changes: numbers[1], beat: numbers[2], beaten: numbers[3]}, nil
 }
 
+// polledIn returns the state that a row of a poll begins with, and what holderColumns, its last ones, say. It fails as stateIn does.
+func polledIn(row []driver.Value) (storeState, error) {
+	state, err := stateIn(row)
+	columns := row[len(row)-countOfHolder:]
+	state.waits, _ = columns[0].(int64)
+	state.holder, _ = columns[1].(string)
+	state.holdersEnded, _ = columns[2].(int64)
+	return state, err
+}
+
 // octetsIn returns a copy of the octets that a column has, since those are valid until the next row alone, or none for a column of another type.
 func octetsIn(value driver.Value) []byte {
 	octets, _ := value.([]byte)
@@ -286,7 +298,7 @@ func (p *pool) changesSince(number int64) (result pollResult, err error) {
 	hasState, count := false, 0
 	result.times = map[int64]int64{}
 	err = p.ask(askChangesSince, func(row []driver.Value) (err error) {
-		result.storeState, err = stateIn(row)
+		result.storeState, err = polledIn(row)
 		hasState = true
 		changeNumber, isThere := row[4].(int64)
 		if !isThere {
@@ -322,7 +334,7 @@ func (r *pollResult) note(kind driver.Value, octets []byte) {
 func (p *pool) allEnded() (result pollResult, err error) {
 	hasState := false
 	err = p.ask(askAllEnded, func(row []driver.Value) (err error) {
-		result.storeState, err = stateIn(row)
+		result.storeState, err = polledIn(row)
 		hasState = true
 		// (it is NULL, and read as 0, before the first change)
 		result.token, _ = row[4].(int64)
@@ -351,6 +363,6 @@ func (p *pool) keep(key digest, chain keptChain, limits *chains) (reply answer, 
 	err = p.ask(askKeep, func(row []driver.Value) error {
 		reply = answer(fmt.Sprint(row[0]))
 		return nil
-	}, key[:], []byte(chain.text), chain.until, int64(limits.Each), int64(limits.Keys))
+	}, key[:], []byte(chain.text), chain.until, int64(limits.Each), int64(limits.Keys), chain.isNamed)
 	return reply, err
 }

@@ -113,7 +113,7 @@ func (t *table) chains(key digest) ([]keptChain, error) {
 	return t.kept[key], t.fault
 }
 
-// keep keeps each sequence in `kept`, which must not be nil, whatever the limits are, unless the table has a fault. It returns keepAnswer, or `kept`
+// keep keeps each sequence, as it is given, in `kept`, which must not be nil, whatever the limits are, unless the table has a fault. It returns keepAnswer, or `kept`
 // if that is empty.
 func (t *table) keep(key digest, chain keptChain, limits *chains) (answer, error) {
 	if t.fault == nil {
@@ -260,7 +260,8 @@ func TestStaleStore(t *testing.T) {
 	}
 }
 
-// TestStatusOfStore reads the status line of a store that was not read yet, and of one whose last beat is 1.5 seconds old.
+// TestStatusOfStore reads the status line of a store that was not read yet, and of one whose last beat is 1.5 seconds old. While a change waits, the
+// status has that as an error.
 func TestStatusOfStore(t *testing.T) {
 	s := newStored(t)
 	s.time = s.time.Add(1500 * time.Millisecond)
@@ -273,6 +274,16 @@ func TestStatusOfStore(t *testing.T) {
 	}
 	if line, err := s.store.statusLine(); !strings.HasPrefix(line, "store: change 1, beat 1, 1.5 s old, ended 0, ") || err != nil {
 		t.Errorf("%q %v", line, err)
+	}
+	s.table.state.waits, s.table.state.holder = 3, "process 9 of 'ann'"
+	s.beat()
+	if _, err := s.store.statusLine(); err == nil || !strings.Contains(err.Error(), "waited 3 s for process 9 of 'ann'") {
+		t.Error(err)
+	}
+	s.table.state.waits = 0
+	s.beat()
+	if _, err := s.store.statusLine(); err != nil {
+		t.Error(err)
 	}
 }
 
@@ -413,6 +424,34 @@ func TestStoredChains(t *testing.T) {
 	}
 }
 
+// TestNamesInStore leaves certificates in a store: that by Alice, who has an entry in the list, is named, and that by Mallory is not. Where the entries
+// cannot be read, the answer is `failed`, and so it is from a list in a store for a kept one.
+func TestNamesInStore(t *testing.T) {
+	s := newStoredWithChains(t)
+	stranger, shown := s.strangersSequence(t)
+	s.expectLeft(t, "by Alice", answerKept)
+	if _, reply := s.leaveAs(t, stranger, shown); reply != answerKept {
+		t.Error(reply)
+	}
+	for name, row := range map[string]struct {
+		who    person
+		wanted bool
+	}{"by Alice": {s.bob, true}, "by Mallory": {stranger, false}} {
+		if chains := s.table.kept[digestIn(hexDigest([]byte(row.who.key)))]; len(chains) != 1 || chains[0].isNamed != row.wanted {
+			t.Errorf("%s: %v", name, chains)
+		}
+	}
+	// (so that the entries for Mallory must be read)
+	s.store.kept.clear()
+	s.table.fault = errors.New("the server is gone")
+	if _, err := s.isNamed(shown); err == nil {
+		t.Error("it is known without the entries")
+	}
+	if _, reply := s.leaveAs(t, stranger, shown); reply != answerFailed {
+		t.Error(reply)
+	}
+}
+
 // TestStoredChainsThatAreNotRead has the store not answer: the answer to a request that may be granted by certificates in it is 503, and neither yes
 // nor no, and that to certificates that are left is `failed`. They are answered by `failed` too where the store gives an answer that it should never give.
 func TestStoredChainsThatAreNotRead(t *testing.T) {
@@ -431,29 +470,72 @@ func TestStoredChainsThatAreNotRead(t *testing.T) {
 	s.expectLeft(t, "an answer that the store never gives", answerFailed)
 }
 
-// TestHostileRows reads rows that are not exactly one entry, or are too long, beside a right one: Alice is not granted anything then. An empty text takes the
-// row away.
+// TestHostileRows reads rows that are not exactly one entry for Alice, beside a right one: they are skipped, and she is granted her request. The rows of a
+// case are read in front of entry 20, and behind it is another one, with which some of them join.
 func TestHostileRows(t *testing.T) {
 	s := newStored(t)
-	entry := s.entryOf(s.alice)
-	// (within `(3:acl` and `)` the last two would be two lists, and a list that begins with a version)
-	for _, text := range []string{
-		entry + entry, entry[:len(entry)-1], "", "x", entry + ")", ")" + entry, "(5:entry" + s.alice.key + ")", strings.Repeat(entry, 10_000),
-		entry + ")(3:acl" + entry, "(7:version1:0)" + entry,
+	entry, other := s.entryOf(s.alice), s.entryOf(s.mallory)
+	s.table.put(7, s.alice.key, "")
+	s.table.put(20, s.alice.key, entry)
+	half := len(entry) / 2
+	useless := "(5:entry" + s.alice.key + "(3:tag1:x))"
+	// (the beginning of an entry whose tag has entry 20 and the first octets of the last row as a string)
+	swallows := fmt.Sprintf("(5:entry%s(3:tag%d:", s.alice.key, len(entry)+len("(5:entry"))
+	hash := strings.Replace(entry, s.alice.key, s.mallory.hashOfKey(), 1)
+	// (within `(3:acl` and `)` some would be two lists, and a list that begins with a version)
+	for name, rows := range map[string][]string{
+		"two entries": {entry + entry}, "no end": {entry[:len(entry)-1]}, "no entry": {"x"}, "an end too many": {entry + ")"}, "an end first": {")" + entry},
+		"no tag": {"(5:entry" + s.alice.key + ")"}, "no subject": {"(5:entry(3:tag(1:*)))"}, "two lists": {entry + ")(3:acl" + entry},
+		"a version": {"(7:version1:0)" + entry}, "a version alone": {"(7:version1:0)"}, "a space in front": {" " + entry}, "a space behind": {entry + " "},
+		"advanced form": {"(entry " + s.alice.key + " (tag (*)))"}, "a space inside": {strings.Replace(entry, s.alice.key, " "+s.alice.key, 1)},
+		"transport form": {sequence()}, "a comment of another list": {entry + "(7:comment1:x)"},
+		"another's": {other}, "another's hash": {hash}, "another's name": {strings.Replace(entry, s.alice.key, "(4:name"+s.mallory.key+"1:x)", 1)},
+		"too long": {strings.Repeat(entry, 10_000)}, "a tag that is too long": {"(5:entry" + s.alice.key + "(3:tag" + str(strings.Repeat("x", mostList)) + "))"},
+		"two halves":                     {entry[:half], entry[half:]},
+		"two of three":                   {entry + entry[:half], entry[half:]},
+		"an entry that swallows another": {swallows}, "three rows that are three entries": {useless + useless + swallows},
 	} {
-		s.table.put(8, s.alice.key, text)
-		s.beat()
-		wanted := 503
-		if text == "" {
-			wanted = 200
+		before := s.store.countsNow().skipped
+		for place, text := range rows {
+			s.table.put(8+place, s.alice.key, text)
 		}
-		s.expectAlice(t, fmt.Sprintf("%.40q", text), wanted)
+		s.table.put(21, s.alice.key, "(5:entry))")
+		s.beat()
+		s.expectAlice(t, name, 200)
+		line, skipped := s.lastLine(t), s.store.countsNow().skipped-before
+		if line.Entry != 20 || line.Skipped != len(rows)+1 || skipped != uint64(len(rows)+1) {
+			t.Errorf("%s: entry %d, skipped %d, %d", name, line.Entry, line.Skipped, skipped)
+		}
+		for place := range rows {
+			s.table.put(8+place, s.alice.key, "")
+		}
 	}
 }
 
-// TestMostRows adds as many entries as one principal may have, and then as many octets. With one more of either it has too many.
+// TestEntriesOfOnePrincipal reads entries for Alice's key, its hashes, also with an address, and names: each is one of hers, and none
+// is skipped.
+func TestEntriesOfOnePrincipal(t *testing.T) {
+	s := newStored(t)
+	entry, number := s.entryOf(s.alice), 8
+	hash := s.alice.hashOfKey()
+	digests := digestsOf([]byte(s.alice.key))
+	for _, principal := range []string{hash, "(4:hash6:sha512" + str(string(digests[2])) + ")", "(4:hash4:sha1" + str(string(digests[0])) + ")",
+		strings.TrimSuffix(hash, ")") + "(3:uri1:x))", "(4:name" + s.alice.key + "1:x)",
+		"(4:name" + hash + "1:x1:y)"} {
+		s.table.put(number, s.alice.key, strings.Replace(entry, s.alice.key, principal, 1))
+		number++
+	}
+	s.beat()
+	s.expectAlice(t, "by all", 200)
+	if skipped := s.store.countsNow().skipped; skipped != 0 || s.lastLine(t).Skipped != 0 {
+		t.Errorf("%d are skipped: %+v", skipped, s.lastLine(t))
+	}
+}
+
+// TestMostRows adds as many rows as one principal may have, and then as many octets. With one more of either it has too many. Entries together are too
+// long from one octet over 1 MiB on, with what is around them, and what is skipped does not count.
 func TestMostRows(t *testing.T) {
-	for _, each := range []struct{ count, octets int }{{mostRows, 1}, {1, mostList - len("(3:acl)")}} {
+	for _, each := range []struct{ count, octets int }{{mostRows, 1}, {4, mostList}} {
 		var rows entryRows
 		for number := 0; number < each.count; number++ {
 			if err := rows.add(number, make([]byte, each.octets)); err != nil {
@@ -463,6 +545,17 @@ func TestMostRows(t *testing.T) {
 		if err := rows.add(each.count, []byte("x")); !errors.Is(err, errMany) || len(rows.texts) != each.count {
 			t.Errorf("%d of %d octets: %v", each.count, each.octets, err)
 		}
+	}
+	s := newStored(t)
+	long := "(5:entry" + s.alice.key + "(3:tag" + str(strings.Repeat("x", 600_000)) + "))"
+	rows := entryRows{numbers: []int{1, 2, 3}, texts: [][]byte{[]byte(long), []byte(long + "x"), {}}}
+	opened, err := s.store.openRows(rows, digestsOf([]byte(s.alice.key)))
+	if err != nil || len(opened.numbers) != 1 || opened.skipped != 2 {
+		t.Errorf("%+v, %v", opened, err)
+	}
+	rows.texts[1] = rows.texts[0]
+	if _, err := s.store.openRows(rows, digestsOf([]byte(s.alice.key))); !errors.Is(err, errMany) {
+		t.Error(err)
 	}
 }
 

@@ -53,6 +53,19 @@ def guard_of(texts, policy=spki.Policy.STRICT, limits=LIMITS):
     return spki.Guard(b"(3:acl%s)" % b"".join(texts), policy, limits)
 
 
+def is_entry(text):
+    """Whether the text of a row, read alone, is exactly one entry in canonical form. A row that is none is skipped: it would have the library refuse
+    the others, or join with them into something else. Entries only grant, so nothing is granted by that. Raises `spki.Refused` if an allocation
+    failed."""
+    try:
+        with guard_of([text]) as guard:
+            return guard.entries == 1 and spki.canonical(text) == text
+    except spki.Refused as refusal:
+        if refusal.fault == spki.Fault.MEMORY:
+            raise
+        return False
+
+
 class Service:
     """Answers questions by the entries of `store`: an object whose method `entries_for` returns the number and the text of each entry that it finds
     by the digests of a key, as `digests_of` returns them. Its method `has_ended` says whether a certificate has ended early, by the SHA-256 digest of
@@ -79,7 +92,8 @@ class Service:
         # such as another digest: then no entry grants, so any rows may be read)
         with self.no_entries.ask(question) as asked:
             first = next(iter(asked), None)
-        rows = self.store.entries_for(digests_of(first.key if first else spki.canonical(question.key.text)))
+        found = self.store.entries_for(digests_of(first.key if first else spki.canonical(question.key.text)))
+        rows = [(number, text) for number, text in found if is_entry(text)]
         with guard_of([text for _, text in rows], self.policy, self.limits) as guard:
             decision = guard.decide(question, counts)
         return rows[decision.entry - 1][0] if decision else None

@@ -12,6 +12,7 @@ import random
 import secrets
 import sys
 from concurrent.futures import ThreadPoolExecutor
+from unittest import mock
 
 from harness import built, databases, needs
 from harness.support import EXAMPLES, canonical
@@ -189,6 +190,16 @@ class RefusedEntries(built.OfLibrary):
                 "a digest of another length": (b"(hash sha256 abc)", TAG)}.items():
             with self.subTest(name), self.assertRaises((spki.Refused, ValueError)):
                 entries.entry(*principal_and_fields)
+
+
+class RowsThatAreNoEntries(built.OfLibrary):
+    def test_rows_are_read_alone(self):
+        """Rows that are not one entry each are skipped, also those that join into what looks like entries: the entry behind them grants."""
+        key = canonical(key_of(b"k"))
+        entry = entries.entry(key, TAG)
+        texts = (entry[:20], entry[20:], b"", entry + entry, b" " + entry, entry + entry[:20], entry, entry[20:])
+        store = mock.Mock(**{"entries_for.return_value": list(enumerate(texts, 1)), "has_ended.return_value": False})
+        self.assertEqual(entries.Service(store).decide(question(b"(sequence)", key_of(b"k")), is_right), 7)
 
 
 class StoresOnServer(built.OfLibrary):

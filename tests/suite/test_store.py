@@ -5,6 +5,7 @@ tables: `entries`, `ended` certificates, `changes` (the log), `imports`, a `hear
 the command, which must end with this status: 0 is done, 1 wrong, missing or different, 2 a refusal, 3 a fault of the database or a file. A daemon
 answers a request with 200 to grant it, 401 or 403 to deny it, and 503 if the state of its store is stale. A wait fails the test after 600 seconds."""
 import argparse
+import concurrent.futures
 import contextlib
 import hashlib
 import http.client
@@ -91,6 +92,37 @@ class OfStore(built.OfLibrary):
         self.addCleanup(process.wait)
         self.addCleanup(process.kill)
         return process
+
+    def make_account(self, name: str, role: str, *roles: str) -> Store:
+        """Makes an account of PostgreSQL with a role of the store, `reader`, `writer`, `adder` or `keeper`, and with `roles` of the server. Returns
+        the store as this account uses it."""
+        account = f"{self.schema}_{name}"
+        self.store.connection.execute(f"CREATE ROLE {account} LOGIN IN ROLE {', '.join([f'{self.schema}_{role}', *roles])}".encode())
+        store = Store(f"host={self.server.folder} user={account} dbname=postgres", self.schema)
+        self.addCleanup(store.close)
+        return store
+
+    def pass_all_rows(self, entry: bytes = ENTRY) -> None:
+        """Has the database test no row any more, and take each for one of the key of an entry."""
+        self.store.connection.execute(f"CREATE OR REPLACE FUNCTION {self.schema}.principal_of(text bytea) RETURNS bytea LANGUAGE sql IMMUTABLE"
+                                      f" AS 'SELECT ''\\x{texts.principal_of(entry).hex()}''::bytea'".encode())
+
+    def begin(self, store: Store, *texts: str) -> int:
+        """Begins a transaction of a store's account with some statements, in which a table is written as `{entries}`. It stays open until the end of
+        the test. Returns the process of the server that has it."""
+        connection = psycopg.connect(store.settings)
+        self.addCleanup(connection.close)
+        for text in texts:
+            connection.execute(store.statement(text))
+        return connection.info.backend_pid
+
+    def start_removal(self, number: int) -> "concurrent.futures.Future[bool]":
+        """Starts to remove an entry, as a change that waits for ever. Returns what has the result of `Store.remove`."""
+        store, pool = Store(self.server.address, self.schema), concurrent.futures.ThreadPoolExecutor(1)
+        self.addCleanup(pool.shutdown)
+        self.addCleanup(store.close)
+        store.connection.execute("SET lock_timeout = 0")
+        return pool.submit(store.remove, number)
 
     def wait_for_beat(self) -> None:
         """Waits for the first beat: before it the state that `init` made may be stale, and a test may stop the server before `beat` has begun."""
@@ -220,6 +252,26 @@ class Command(OfStore):
             self.store.connection.execute(statement.replace("spki.", f"{self.schema}.").encode())
         self.check_entries(wanted)
 
+    def test_store_of_an_earlier_init(self) -> None:
+        """A store without the newer columns and functions gets them as the page says. Then `beat` and keepers work, and others may not keep."""
+        for text in ("ALTER TABLE {heartbeat} DROP waits, DROP holder, DROP ended", "ALTER TABLE {chains} DROP named",
+                     f"DROP FUNCTION {self.schema}.keep"):
+            self.store.rows(text)
+        schema = pathlib.Path(tables.SCHEMA).read_text().replace("@SCHEMA@", self.schema)
+        statements = re.findall(r"^    (ALTER TABLE spki\..*;)$", text_of("apps/spki-store/README.md"), re.MULTILINE)
+        functions = re.findall(r"^CREATE FUNCTION (.*?^END \$\$;)$", schema, re.MULTILINE | re.DOTALL)
+        self.assertEqual((len(statements), len(functions)), (2, 4))
+        with self.store.connection.transaction():
+            for text in (*[each.replace("spki.", f"{self.schema}.") for each in statements],
+                         *[f"CREATE OR REPLACE FUNCTION {each}" for each in functions], schema[schema.index("\nREVOKE"):]):
+                self.store.connection.execute(text.encode())
+        kim, rob, wilma = (self.make_account(*words) for words in (("kim", "keeper"), ("rob", "reader"), ("wilma", "writer")))
+        keep = f"SELECT {self.schema}.keep(sha256(''), '', now() + '1 h', 1, 1, true)"
+        self.assertEqual(kim.rows(keep), [("kept",)])
+        self.assertRaises(psycopg.errors.InsufficientPrivilege, rob.rows, keep)
+        wilma.beat(3, "holder", 1)
+        self.assertEqual(rob.rows("SELECT waits, holder, ended FROM {heartbeat}"), [(3, "holder", 1)])
+
 
 class Schema(OfStore):
     """What the database itself refuses, what it lets pass, and what it notes."""
@@ -266,9 +318,14 @@ class Schema(OfStore):
             self.assertEqual([row.text for row in self.store.all()], [ENTRY])
 
     def test_row_that_is_no_entry(self) -> None:
-        """`check` finds an entry that the constraints of the database let pass: here one without its tag."""
+        """`check` finds an entry that the constraints of the database let pass: here one without its tag. It finds each row that is none also if they
+        join into entries, as many as there are rows, where somebody has changed what the database tests."""
         self.store.rows("INSERT INTO {entries} (text) VALUES (%s), (%s)", ENTRY, ENTRY.replace(b"(3:tag(1:*))", b""))
         self.assertEqual(self.spki_store(1, "check").splitlines()[-1], "entries checked: 2, wrong 1")
+        self.store.rows("DELETE FROM {entries}")
+        self.pass_all_rows()
+        self.store.rows("INSERT INTO {entries} (text) VALUES (%s), (%s), (%s)", ENTRY + ENTRY[:9], ENTRY[9:], ENTRY)
+        self.assertEqual(self.spki_store(1, "check").splitlines()[-1], "entries checked: 3, wrong 2")
 
     def test_what_readers_and_writers_may_do(self) -> None:
         """A reader cannot write, or see a change's account or text. A writer adds, removes, ends and beats. The owner too edits no entry or log."""
@@ -295,14 +352,6 @@ class Schema(OfStore):
             self.assertEqual(self.store.rows("SELECT number, what FROM {changes} ORDER BY number"),
                              [(1, "add"), (2, "add"), (3, "remove"), (4, "end")])
 
-    def make_account(self, name: str, role: str) -> Store:
-        """Makes an account of PostgreSQL with a role: `reader`, `writer`, `adder` or `keeper`. Returns the store as this account uses it."""
-        account = f"{self.schema}_{name}"
-        self.store.connection.execute(f"CREATE ROLE {account} LOGIN IN ROLE {self.schema}_{role}".encode())
-        store = Store(f"host={self.server.folder} user={account} dbname=postgres", self.schema)
-        self.addCleanup(store.close)
-        return store
-
     def test_an_adder_removes_only_its_own_entries(self) -> None:
         """An `adder` can remove only what the same account has added, and a `writer` any entry. The log has the accounts."""
         ann, ben, carl = (self.make_account(*words) for words in (("ann", "adder"), ("ben", "adder"), ("carl", "writer")))
@@ -321,13 +370,13 @@ class Schema(OfStore):
 
     def test_a_keeper_keeps_certificates_within_limits(self) -> None:
         """An account of the role `keeper`, which keeps certificates of clients, can do so by one function alone, within limits: here for at most 2
-        keys, and at most 2 texts of each. A text whose time has ended is removed."""
+        keys, and at most 2 texts of each. A text whose time has ended is removed, and one that no list names where another one needs its room."""
         kim, reader = self.make_account("kim", "keeper"), self.make_account("rob", "reader")
-        keep = f"SELECT {self.schema}.keep(%s, %s, now() + '1 h', 2, 2)"
+        keep = f"SELECT {self.schema}.keep(%s, %s, now() + '1 h', 2, 2, %s)"
 
-        def keep_text(key: int, text: bytes) -> str:
+        def keep_text(key: int, text: bytes, is_named: bool = False) -> str:
             """What the function answers to a text of a client, the digest of whose key is 32 octets `key`: `kept`, `known` or `full`."""
-            (word,), = kim.rows(keep, bytes([key]) * 32, text)
+            (word,), = kim.rows(keep, bytes([key]) * 32, text, is_named)
             return str(word)
         self.assertEqual([keep_text(1, b"a"), keep_text(1, b"a"), keep_text(1, b"b"), keep_text(1, b"c"), keep_text(2, b"a"), keep_text(3, b"a")],
                          ["kept", "known", "kept", "full", "kept", "full"])
@@ -340,8 +389,16 @@ class Schema(OfStore):
             with self.subTest(text), self.assertRaises(psycopg.errors.InsufficientPrivilege):
                 store.rows(text)
         with self.assertRaises(psycopg.errors.InsufficientPrivilege):
-            reader.rows(keep, bytes(32), b"")
+            reader.rows(keep, bytes(32), b"", False)
         self.assertRaises(psycopg.Error, keep_text, 3, bytes(8192 + 1))  # (the table has texts of at most 8,192 octets)
+        # (what no list names gives way to what one names: a text of the same key, or a whole key, and never the reverse)
+        for key, shown, is_named, word, kept in (
+                (1, b"n", True, "kept", "1b 1n 3a"), (2, b"n", True, "kept", "1b 1n 2n"), (3, b"x", False, "full", "1b 1n 2n"),
+                (3, b"n", True, "full", "1b 1n 2n"), (1, b"b", True, "known", "1b 1n 2n"), (1, b"m", True, "full", "1b 1n 2n"),
+                (2, b"x", False, "kept", "1b 1n 2n 2x"), (2, b"m", True, "kept", "1b 1n 2m 2n"), (2, b"x", False, "full", "1b 1n 2m 2n")):
+            self.assertEqual(keep_text(key, shown, is_named), word, (key, shown))
+            rows = kim.rows("SELECT key, text FROM {chains} ORDER BY key, text")
+            self.assertEqual(" ".join(f"{row[0][0]}{row[1].decode()}" for row in rows), kept, (key, shown))
 
     def test_changes_are_numbered_in_order(self) -> None:
         """A change waits for the end of another transaction with a change, so no lower number appears after a higher one. If that stays open, the
@@ -519,6 +576,45 @@ class Served(OfServed):
         other.wait_for_status(200, bob)
         self.assertEqual(other.daemon.last_grant()["kept"], "used")
 
+    def test_rows_that_are_no_entries(self) -> None:
+        """Rows for Alice that are no entries, some of which join into what looks like some, are skipped, counted and logged. Her entry grants all the
+        same."""
+        self.start_beat(self.server.address)
+        alice, authd = self.people["alice"], self.start_daemon("rows", self.server)
+        entry = texts.entry_of(f"(entry {alice.key} (tag (files read (* prefix /web/))))".encode())
+        self.pass_all_rows(entry)
+        for text in (entry[:40], entry[40:], b"", entry + entry, entry.replace(b"(3:tag", b"(3:gat"), entry + entry[:40], entry, entry[40:],
+                     b"(5:entry"):
+            number = self.store.add(text)
+        authd.wait_for_status(200, alice)
+        self.assertEqual((authd.daemon.last_grant()["entry"], authd.daemon.last_grant()["skipped"]), (number - 2, 8))
+        self.assertIn('\nspki_authd_store_rows_skipped_total{list="1"} 8\n', authd.daemon.run("-metrics")[1])
+        self.assertEqual(self.spki_store(1, "check").splitlines()[-1], "entries checked: 9, wrong 8")
+
+    def test_an_adder_that_holds_a_removal_off(self) -> None:
+        """While a removal waits for an adder who has locked the table, the daemon's health and metrics say so. `spki-store beat` ends the adder after
+        the usual time, and the removal is made."""
+        alice, authd = self.people["alice"], self.start_daemon("held", self.server)
+        beats = Beats(self.make_account("bea", "writer", "pg_signal_backend", "pg_read_all_stats"))
+        number = self.add_entry(alice)
+        holder = self.begin(self.make_account("ann", "adder"), "LOCK TABLE {entries} IN SHARE ROW EXCLUSIVE MODE")
+        removal = self.start_removal(number)
+
+        def is_said() -> bool:
+            """Beats and looks, and says whether the daemon's health fails since a change waits."""
+            beats.beat()
+            self.assertEqual(beats.look(0), [])
+            status, _, errors = authd.daemon.run("-health")
+            return status == 1 and re.search(rf"a change of the store has waited [1-9]\d* s for process {holder} of ", errors) is not None
+        waits_for("the daemon's health fails", is_said)
+        self.assertRegex(authd.daemon.run("-metrics")[1], r'\nspki_authd_store_change_waits_seconds\{list="1"\} [1-9]')
+        self.assertFalse(removal.done())
+        self.start_beat(beats.store.settings)
+        self.assertTrue(removal.result())
+        authd.wait_for_status(401, alice)
+        waits_for("the daemon's health is well", lambda: authd.daemon.run("-health")[0] == 0)
+        self.assertIn('\nspki_authd_store_holders_ended_total{list="1"} 1\n', authd.daemon.run("-metrics")[1])
+
     def test_server_that_hangs(self) -> None:
         """If the server of PostgreSQL accepts statements and answers nothing, the daemon answers 503, and does not hang."""
         self.start_beat(self.server.address)
@@ -630,6 +726,95 @@ class Heartbeat(OfStore):
         with fails, pauses as sleep, contextlib.redirect_stderr(io.StringIO()), self.assertRaises(EOFError):
             commands.beat(self.store, argparse.Namespace(times=0))  # (0: without end, so the second pause ends it)
         self.assertTrue(all(call.args[0] > 0 for call in sleep.call_args_list))
+
+
+class Holders(OfStore):
+    """Whom `beat` finds to hold changes up, and ends. A look is `Beats.look`, which ends those for whom a change has waited some seconds."""
+
+    def setUp(self) -> None:
+        super().setUp()
+        self.ann = self.make_account("ann", "adder")
+        self.number = self.store.add(ENTRY)
+
+    def beats(self, name: str, *roles: str) -> Beats:
+        """The heartbeat of a new account that is a writer, and has `roles` of the server."""
+        return Beats(self.make_account(name, "writer", *roles))
+
+    def look_until_told(self, beats: Beats, seconds: int) -> str:
+        """Beats and looks, as `beat` does, until a look tells something. Returns that. Each holder is ended for whom a change has waited so long."""
+        told: list[str] = []
+
+        def is_told() -> bool:
+            beats.beat()
+            told.extend(beats.look(seconds))
+            return bool(told)
+        waits_for("something is told", is_told)
+        return "\n".join(told)
+
+    def test_an_adder_cannot_hold_a_removal_off(self) -> None:
+        """An adder that has locked the table, waits to lock it behind somebody who reads, or has added and does not commit, is ended. The removal is
+        made then, and who reads stays."""
+        beats, rob = self.beats("bea", "pg_signal_backend", "pg_read_all_stats"), self.make_account("rob", "reader")
+        added = f"INSERT INTO {{entries}} (text) VALUES ('\\x{ENTRY.hex()}')"
+        for begun in ("LOCK TABLE {entries} IN SHARE ROW EXCLUSIVE MODE", "LOCK TABLE {entries}", added):
+            with self.subTest(begun):
+                holder = self.begin(self.ann, begun)
+                removal = self.start_removal(self.number)
+                self.assertEqual(self.look_until_told(beats, 1), f"process {holder} of '{self.schema}_ann' held changes up, and is ended")
+                self.assertTrue(removal.result())
+                self.number = self.store.add(ENTRY)
+        reader = self.begin(rob, "SELECT * FROM {entries}")
+        waiting = threading.Thread(target=self.assertRaises, args=(psycopg.OperationalError, self.begin, self.ann, "LOCK TABLE {entries}"))
+        waiting.start()
+        self.addCleanup(waiting.join)
+        waits_for("the adder waits", lambda: bool(self.store.rows("SELECT 1 FROM pg_locks WHERE NOT granted")))
+        removal = self.start_removal(self.number)
+        self.assertIn("of '%s_ann' held changes up, and is ended" % self.schema, self.look_until_told(beats, 1))
+        self.assertTrue(removal.result())
+        self.assertEqual(self.store.rows("SELECT state FROM pg_stat_activity WHERE pid = %s", reader), [("idle in transaction",)])
+        beats.beat()
+        self.assertEqual(self.store.rows("SELECT ended FROM {heartbeat}"), [(4,)])
+
+    def test_who_is_not_ended(self) -> None:
+        """Nobody is ended by an account without the rights, after 0 seconds, or while nobody waits; and neither is a change that waits itself, nor a
+        superuser. What the heartbeat notes says for whom a change waits."""
+        weak, beats, off = self.beats("weak"), self.beats("bea", "pg_signal_backend", "pg_read_all_stats"), self.beats("off", "pg_read_all_stats")
+        numbers = [self.number, self.store.add(ENTRY)]
+        holder = self.begin(self.ann, f"INSERT INTO {{entries}} (text) VALUES ('\\x{ENTRY.hex()}')")
+        time.sleep(1.1)  # (nobody is ended in the first second of a transaction)
+        self.assertEqual((beats.store.awaited(), beats.look(1)), ([], []))
+        removals = [self.start_removal(number) for number in numbers]
+        self.assertIn("or this account lacks the role pg_read_all_stats", self.look_until_told(weak, 1))
+        self.assertIn("pg_signal_backend", self.look_until_told(off, 1))
+        beats.beat()
+        self.assertEqual(beats.look(0), [])
+        beats.beat()
+        (waits, who, ended), = self.store.rows("SELECT waits, holder, ended FROM {heartbeat}")
+        self.assertEqual((waits > 0, who, ended), (True, f"process {holder} of '{self.schema}_ann'", 0))
+        self.assertEqual([removal.done() for removal in removals], [False, False])
+        self.assertIn("is ended", self.look_until_told(beats, 1))
+        self.assertEqual([removal.result() for removal in removals], [True, True])
+        number = self.store.add(ENTRY)
+        superuser = self.begin(self.store, "LOCK TABLE {entries}")
+        removal = self.start_removal(number)
+        self.assertIn("superuser", self.look_until_told(beats, 1))
+        self.store.rows("SELECT pg_terminate_backend(%s)", superuser)
+        self.assertTrue(removal.result())
+
+    def test_who_waits_for_a_replica_is_not_ended(self) -> None:
+        """An adder whose entry waits for a replica has changed the store already, and is not ended. The heartbeat waits for no replica here."""
+        beats = self.beats("bea", "pg_signal_backend", "pg_read_all_stats")
+        beats.store.rows("SET synchronous_commit = local")
+        change_setting(self.server, "synchronous_standby_names", "ANY 1 (*)")
+        self.addCleanup(change_setting, self.server, "synchronous_standby_names", "")
+        adder = threading.Thread(target=self.ann.add, args=(ENTRY,))
+        adder.start()
+        self.addCleanup(adder.join)
+        waits_for("the adder waits for a replica", lambda: bool(self.store.rows("SELECT 1 FROM pg_stat_activity WHERE wait_event = 'SyncRep'")))
+        removal = self.start_removal(self.number)
+        self.assertIn("is not ended: it waits for a replica", self.look_until_told(beats, 1))
+        change_setting(self.server, "synchronous_standby_names", "")
+        self.assertTrue(removal.result())
 
 
 class Replicated(OfServed):

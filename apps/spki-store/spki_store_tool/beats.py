@@ -1,4 +1,4 @@
-"""The heartbeat: increases a number in the store each second, at whichever of several servers takes that."""
+"""The heartbeat: increases a number in the store each second, at whichever of several servers takes that, and ends who holds changes up there."""
 from __future__ import annotations
 
 from concurrent.futures import Future, ThreadPoolExecutor, wait
@@ -6,10 +6,12 @@ from typing import Any
 
 import psycopg
 
-from .tables import Store, connect_to
+from .tables import Holder, Store, connect_to
 
 # The time between two beats, and between two attempts after a fault, in seconds.
 EVERY, AGAIN = 1.0, 0.2
+# After how many seconds that a change has waited for it a process is ended: `remove` and the other commands wait 10 seconds.
+END_AFTER = 5
 
 
 class Beats:
@@ -23,19 +25,48 @@ class Beats:
         # (the connections that are being made, by the settings of their hosts)
         self.opening: dict[str, Future[psycopg.Connection[Any]]] = {}
         self.pool = ThreadPoolExecutor(len(self.hosts))
+        # (what the next beat notes: who holds changes up, or None, and how many holders were ended since the last beat. And what `look` has said)
+        self.holder: Holder | None = None
+        self.ended, self.said = 0, set[str]()
 
     def beat(self) -> None:
         """Makes one beat. Raises `psycopg.Error` if that fails, and the next beat is then tried by another connection."""
         if self.store.connection.closed:
             self.connect()
         try:
-            self.store.beat()
+            self.store.beat(self.holder.seconds if self.holder else 0, str(self.holder or ""), self.ended)
+            self.ended = 0
         except psycopg.Error:
             self.store.close()
             # (`at` has the settings of the server where the beat failed, which becomes the last in order)
             self.hosts.remove(self.store.at)
             self.hosts.append(self.store.at)
             raise
+
+    def look(self, end_after: int) -> list[str]:
+        """Looks for whom changes wait, for the next beat to note, and ends those for whom one has waited `end_after` seconds, or nobody for 0.
+        Returns what is to be told, each line once as long as it is true. A fault of the database is such a line: it must not stop the heartbeat."""
+        lines = []
+        try:
+            # (a wait of less than a second is usual, and counts as none)
+            awaited = [each for each in self.store.awaited() if each.seconds > 0]
+            self.holder = awaited[0] if awaited else None
+            lines = [self.end(each) for each in awaited if 0 < end_after <= each.seconds]
+        except psycopg.Error as why:
+            lines.append(f"who holds changes up is not known: {str(why).strip()}")
+        told, self.said = [line for line in lines if line not in self.said], set(lines)
+        return told
+
+    def end(self, holder: Holder) -> str:
+        """Ends a process for which a change waits, and returns what is to be told about it. Raises `psycopg.Error` if the server does not answer."""
+        if holder.began is None:
+            return f"{holder} holds changes up, and is not ended: it waits for a replica, or this account lacks the role pg_read_all_stats"
+        try:
+            is_ended = self.store.end_holder(holder)
+        except psycopg.Error as why:
+            return f"{holder} holds changes up, and is not ended: {str(why).strip()}"
+        self.ended += is_ended
+        return f"{holder} held changes up, and {'is ended' if is_ended else 'has gone on'}"
 
     def connect(self) -> None:
         """Connects to all servers, waits until all have answered, but at most AGAIN seconds, and uses the connection to the first in order that has

@@ -16,9 +16,9 @@ from typing import NoReturn
 
 import psycopg
 
-from .beats import AGAIN, EVERY, Beats
+from .beats import AGAIN, END_AFTER, EVERY, Beats
 from .tables import ROLES, Store
-from .texts import MOST, Wrong, advanced, batches, entry_of, fault_of, fault_of_one, principal_of
+from .texts import MOST, Wrong, advanced, batches, entry_of, fault_of, fault_of_one, is_canonical, principal_of
 from .transfer import MOST_AT_ONCE, differences, export_list, forget, import_list
 
 DONE, FOUND, REFUSED, FAILED = 0, 1, 2, 3
@@ -121,7 +121,8 @@ def check(store: Store, given: argparse.Namespace) -> int:
     count, wrong = 0, 0
     for page in batches(((row, len(row.text)) for row in store.all()), MOST_AT_ONCE):
         count += len(page)
-        are_entries = fault_of([row.text for row in page]) is None
+        # (rows that are each no list could join into some)
+        are_entries = all(is_canonical(row.text) for row in page) and fault_of([row.text for row in page]) is None
         for row in page:
             why = None if are_entries else fault_of_one(row.text)
             if why is None and principal_of(row.text) != row.principal:
@@ -158,7 +159,7 @@ def diff(store: Store, given: argparse.Namespace) -> int:
 def beat(store: Store, given: argparse.Namespace) -> int:
     """Increases the number of the heartbeat each second, as often as --times says, or for 0 until it is ended. A beat that fails does not count.
     After any fault of the database it looks five times a second for a server that takes it: another one may be the primary. A fault that stays is
-    told once."""
+    told once. After each beat it ends who holds a change up for as long as --end-after says."""
     beats, count, last_fault = Beats(store), 0, ""
     while not given.times or count < given.times:
         # (the seconds from the beginning of this beat to that of the next one)
@@ -166,6 +167,8 @@ def beat(store: Store, given: argparse.Namespace) -> int:
         try:
             beats.beat()
             count, last_fault = count + 1, ""
+            for line in beats.look(given.end_after):
+                tell(line)
         except psycopg.Error as why:
             pause = AGAIN
             if first_line(why) != last_fault:
@@ -216,7 +219,10 @@ def parser_of_commands() -> argparse.ArgumentParser:
     command("check", check, "says which rows are no entries or have another principal than their texts")
     command("log", log, "prints who changed what").add_argument("--last", type=int, default=100, help="so many changes, by default 100")
     command("diff", diff, "compares with a list: prints what only the store (-) or only the list (+) has").add_argument("file")
-    command("beat", beat, "increases the number of the heartbeat each second").add_argument("--times", type=int, default=0, help="so often, and ends")
+    beating = command("beat", beat, "increases the number of the heartbeat each second, and ends who holds changes up")
+    beating.add_argument("--times", type=int, default=0, help="so often, and ends")
+    beating.add_argument("--end-after", type=int, default=END_AFTER, metavar="SECONDS",
+                         help=f"ends who holds a change up for so long, by default {END_AFTER} seconds; 0 ends nobody")
     return parser
 
 

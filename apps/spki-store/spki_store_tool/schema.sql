@@ -86,12 +86,14 @@ CREATE INDEX entries_by_sha512 ON @SCHEMA@.entries (principal, number) WHERE oct
 -- The certificates that have ended early, by their SHA-256 digests. They stay.
 CREATE TABLE @SCHEMA@.ended (certificate bytea PRIMARY KEY CHECK (octet_length(certificate) = 32), remark text NOT NULL DEFAULT '');
 
--- The certificates that clients left with daemons, by the SHA-256 digests of their keys. They give nothing by themselves.
+-- The certificates that clients left with daemons, by the SHA-256 digests of their keys. They give nothing by themselves. `named` says that a list of the
+-- daemon named their first issuer.
 CREATE TABLE @SCHEMA@.chains (
     key bytea NOT NULL CHECK (octet_length(key) = 32),
     digest bytea NOT NULL GENERATED ALWAYS AS (sha256(text)) STORED,
     until timestamptz NOT NULL,
     text bytea NOT NULL CHECK (octet_length(text) <= 8192),
+    named boolean NOT NULL DEFAULT false,
     PRIMARY KEY (key, digest)
 );
 CREATE INDEX chains_by_end ON @SCHEMA@.chains (until);
@@ -113,9 +115,16 @@ CREATE TABLE @SCHEMA@.state (one boolean PRIMARY KEY DEFAULT true CHECK (one), v
     WITH (fillfactor = 10);
 INSERT INTO @SCHEMA@.state (version, changes) VALUES (2, 0);
 
--- `spki-store beat` increases this number each second.
-CREATE TABLE @SCHEMA@.heartbeat (one boolean PRIMARY KEY DEFAULT true CHECK (one), number bigint NOT NULL, moment timestamptz NOT NULL)
-    WITH (fillfactor = 10);
+-- `spki-store beat` increases this number each second. It also notes how many seconds a change has waited for somebody who holds it up, or 0, who that
+-- is, and how many of them were ended in all.
+CREATE TABLE @SCHEMA@.heartbeat (
+    one boolean PRIMARY KEY DEFAULT true CHECK (one),
+    number bigint NOT NULL,
+    moment timestamptz NOT NULL,
+    waits integer NOT NULL DEFAULT 0,
+    holder text NOT NULL DEFAULT '',
+    ended bigint NOT NULL DEFAULT 0
+) WITH (fillfactor = 10);
 INSERT INTO @SCHEMA@.heartbeat (number, moment) VALUES (0, clock_timestamp());
 
 -- How far a list was imported, by the SHA-256 digest of its text in canonical form.
@@ -161,23 +170,33 @@ CREATE TRIGGER refused BEFORE UPDATE OR DELETE OR TRUNCATE ON @SCHEMA@.ended FOR
 CREATE TRIGGER refused BEFORE UPDATE OR DELETE OR TRUNCATE ON @SCHEMA@.changes FOR EACH STATEMENT EXECUTE FUNCTION @SCHEMA@.refuse_change();
 
 -- Keeps the certificates of a key until a time, `ends`. `of_key` is the SHA-256 digest of the key, and `shown` the text of the sequence with the
--- certificates. Returns `kept`; `known` if they are kept already; or `full` if this key has `most_each` such texts, or if it has none and `most_keys`
--- others have some. Texts that have ended are removed. Only this function adds any, one call after the other.
-CREATE FUNCTION @SCHEMA@.keep(of_key bytea, shown bytea, ends timestamptz, most_each integer, most_keys integer) RETURNS text
+-- certificates. `is_named` says that a list names their first issuer. Returns `kept`; `known` if they are kept already; or `full` if this key has
+-- `most_each` such texts, or if it has none and `most_keys` others have some. Texts that have ended are removed. Those that are not named give way to
+-- one that is: one of this key, or all of a key that has no others. Only this function adds any, one call after the other.
+CREATE FUNCTION @SCHEMA@.keep(of_key bytea, shown bytea, ends timestamptz, most_each integer, most_keys integer, is_named boolean) RETURNS text
 LANGUAGE plpgsql SECURITY DEFINER SET search_path = pg_catalog, pg_temp AS $$
 DECLARE
     texts_of_key bigint;
 BEGIN
     LOCK TABLE @SCHEMA@.chains IN SHARE ROW EXCLUSIVE MODE;
     DELETE FROM @SCHEMA@.chains WHERE until <= clock_timestamp();
-    IF EXISTS (SELECT FROM @SCHEMA@.chains WHERE key = of_key AND digest = sha256(shown)) THEN
+    UPDATE @SCHEMA@.chains SET named = named OR is_named WHERE key = of_key AND digest = sha256(shown);
+    IF FOUND THEN
         RETURN 'known';
+    END IF;
+    SELECT count(*) INTO texts_of_key FROM @SCHEMA@.chains WHERE key = of_key;
+    IF texts_of_key >= most_each AND is_named THEN
+        DELETE FROM @SCHEMA@.chains WHERE key = of_key AND digest = (
+            SELECT digest FROM @SCHEMA@.chains WHERE key = of_key AND NOT named ORDER BY until LIMIT 1);
+    ELSIF texts_of_key = 0 AND is_named AND (SELECT count(DISTINCT key) FROM @SCHEMA@.chains) >= most_keys THEN
+        DELETE FROM @SCHEMA@.chains WHERE key = (
+            SELECT key FROM @SCHEMA@.chains GROUP BY key HAVING NOT bool_or(named) ORDER BY min(until) LIMIT 1);
     END IF;
     SELECT count(*) INTO texts_of_key FROM @SCHEMA@.chains WHERE key = of_key;
     IF texts_of_key >= most_each OR texts_of_key = 0 AND (SELECT count(DISTINCT key) FROM @SCHEMA@.chains) >= most_keys THEN
         RETURN 'full';
     END IF;
-    INSERT INTO @SCHEMA@.chains (key, until, text) VALUES (of_key, ends, shown);
+    INSERT INTO @SCHEMA@.chains (key, until, text, named) VALUES (of_key, ends, shown, is_named);
     RETURN 'kept';
 END $$;
 
@@ -195,9 +214,11 @@ GRANT SELECT (number, moment, what, entry, digest) ON @SCHEMA@.changes TO @SCHEM
 GRANT SELECT ON @SCHEMA@.changes TO @SCHEMA@_writer;
 GRANT INSERT (text), DELETE ON @SCHEMA@.entries TO @SCHEMA@_writer, @SCHEMA@_adder;
 GRANT INSERT (certificate, remark) ON @SCHEMA@.ended TO @SCHEMA@_writer;
-GRANT UPDATE (number, moment) ON @SCHEMA@.heartbeat TO @SCHEMA@_writer;
+-- (who holds changes up is ended by pg_read_all_stats and pg_signal_backend, which are roles of the whole server: a superuser grants them to the account
+-- of the heartbeat, and not to each writer)
+GRANT UPDATE (number, moment, waits, holder, ended) ON @SCHEMA@.heartbeat TO @SCHEMA@_writer;
 GRANT SELECT, INSERT, UPDATE, DELETE ON @SCHEMA@.imports TO @SCHEMA@_writer;
 GRANT SELECT, DELETE ON @SCHEMA@.chains TO @SCHEMA@_writer;
 GRANT SELECT ON @SCHEMA@.state, @SCHEMA@.chains TO @SCHEMA@_keeper;
-GRANT EXECUTE ON FUNCTION @SCHEMA@.keep(bytea, bytea, timestamptz, integer, integer) TO @SCHEMA@_keeper;
+GRANT EXECUTE ON FUNCTION @SCHEMA@.keep(bytea, bytea, timestamptz, integer, integer, boolean) TO @SCHEMA@_keeper;
 GRANT EXECUTE ON FUNCTION @SCHEMA@.principal_of(bytea) TO @SCHEMA@_reader, @SCHEMA@_writer, @SCHEMA@_adder;

@@ -5,6 +5,7 @@ whose number `spki-store beat` increases, and `changes` is the log."""
 from __future__ import annotations
 
 import contextlib
+import json
 import os
 import re
 import select
@@ -55,7 +56,7 @@ def run_within(connection: PGconn, text: bytes, seconds: float) -> bytes:
     """Runs the statements in `text`, and waits for at most so many seconds. Returns the first value in the first row of the last one that returns
     rows, as octets, or b"" if it is NULL or there is none. Raises OperationalError if one fails, or if the server does not answer in time. (psycopg
     alone would wait for ever.)"""
-    end, value = time.monotonic() + seconds, b""
+    end, value, fault = time.monotonic() + seconds, b"", ""
     connection.send_query(text)
     connection.flush()
     while True:
@@ -66,12 +67,46 @@ def run_within(connection: PGconn, text: bytes, seconds: float) -> bytes:
                 raise psycopg.OperationalError(f"the server has not answered for {seconds:.0f} seconds")
             connection.consume_input()
         result = connection.get_result()
+        if result is None and fault:
+            raise psycopg.OperationalError(fault)
         if result is None:
             return value
         if result.status not in (ExecStatus.COMMAND_OK, ExecStatus.TUPLES_OK):
-            raise psycopg.OperationalError(error_message(result))
+            # (with the last result the connection is free again)
+            fault = error_message(result)
         if result.status == ExecStatus.TUPLES_OK:
             value = result.get_value(0, 0) or b""
+
+
+# The processes of the server for which a change of the store waits, or a read of it, as an array of JSON, first the one for which one has waited
+# longest: the number, the account, how many seconds, and when the transaction began. Changes that wait themselves are not among them. Who waits to
+# lock a whole table counts as one who holds up, and not as one who waits: otherwise an adder could have others' reads ended. The moment is null, so
+# that nobody is ended by it, in the first second, if this account may not see it, or if the process waits for a replica: it has changed the store by
+# then.
+AWAITED = """WITH here AS (SELECT l.pid, l.mode, l.granted FROM pg_locks l JOIN pg_class c ON c.oid = l.relation
+        WHERE l.database = (SELECT oid FROM pg_database WHERE datname = current_database()) AND c.relnamespace = to_regnamespace({schema})),
+    waiting AS (SELECT w.pid, w.waitstart FROM pg_locks w WHERE NOT w.granted AND w.pid IN (SELECT pid FROM here)
+        AND (w.locktype IN ('transactionid', 'tuple') OR w.mode IN ('AccessShareLock', 'RowShareLock', 'RowExclusiveLock'))),
+    awaited AS (SELECT b.pid, floor(max(extract(epoch FROM clock_timestamp() - w.waitstart)))::integer AS seconds
+        FROM waiting w CROSS JOIN LATERAL unnest(pg_blocking_pids(w.pid)) b (pid) WHERE b.pid NOT IN (SELECT pid FROM waiting)
+        AND b.pid IN (SELECT pid FROM here WHERE mode NOT IN ('AccessShareLock', 'ShareUpdateExclusiveLock')) GROUP BY b.pid)
+    SELECT json_agg(json_build_array(pid, a.usename, coalesce(seconds, 0), CASE WHEN a.wait_event IS DISTINCT FROM 'SyncRep'
+        AND a.xact_start < clock_timestamp() - interval '1 s' THEN a.xact_start::text END) ORDER BY seconds DESC)
+    FROM awaited JOIN pg_stat_activity a USING (pid)"""
+
+
+@dataclass(frozen=True)
+class Holder:
+    """A process of the server for which a change of the store waits. `account` is whose it is, `seconds` how long the change has waited, and `began`
+    when its transaction began, as the server writes it, or None if it must not be ended by that: see AWAITED."""
+
+    process: int
+    account: str
+    seconds: int
+    began: str | None
+
+    def __str__(self) -> str:
+        return f"process {self.process} of {self.account!r}"
 
 
 @dataclass(frozen=True)
@@ -118,10 +153,15 @@ class Store:
         """Closes the connection. `connect` makes another one, and so does `Beats.connect`."""
         self.connection.close()
 
-    def statement(self, text: str) -> sql.Composed:
-        """The statement `text`, in which a table is written as `{entries}`, with the table's name in the schema."""
-        return sql.SQL(text).format(**{table: sql.Identifier(self.schema, table)
-                                       for table in ("entries", "ended", "chains", "changes", "state", "heartbeat", "imports")})
+    def statement(self, text: str, **values: Any) -> sql.Composed:
+        """The statement `text`, in which a table is written as `{entries}`, with the table's name in the schema. `values` are written as literals in
+        place of their names in braces, and so is the name of the schema in place of `{schema}`."""
+        names = {table: sql.Identifier(self.schema, table) for table in ("entries", "ended", "chains", "changes", "state", "heartbeat", "imports")}
+        return sql.SQL(text).format(**names, **{name: sql.Literal(value) for name, value in {"schema": self.schema, **values}.items()})
+
+    def composed(self, text: str, **values: Any) -> bytes:
+        """`statement`, as octets for `run_within`."""
+        return self.statement(text, **values).as_string(self.connection).encode()
 
     def rows(self, text: str, *values: Any) -> list[Any]:
         """Runs one statement, in which a table is written as `{entries}`, with values for its `%s`. Returns its rows. It is a transaction of its own,
@@ -172,12 +212,27 @@ class Store:
         """Whether a certificate has ended, by its SHA-256 digest."""
         return bool(self.rows("SELECT 1 FROM {ended} WHERE certificate = %s", certificate))
 
-    def beat(self, seconds: float = 3.0) -> int:
-        """Increases the number of the heartbeat, and returns it. Raises OperationalError if that fails, or takes longer than so many seconds. It is
-        not cancelled then: a change that waits for a replica would be committed without the replica. Such a beat has the lock of the row, so further
-        beats fail after BEAT_WAITS milliseconds."""
-        text = f"SET LOCAL lock_timeout = {BEAT_WAITS}; UPDATE {{heartbeat}} SET number = number + 1, moment = clock_timestamp() RETURNING number"
-        return int(run_within(self.connection.pgconn, self.statement(text).as_string(self.connection).encode(), seconds))
+    def beat(self, waits: int = 0, holder: str = "", more: int = 0, seconds: float = 3.0) -> int:
+        """Increases the number of the heartbeat, and returns it. Notes that a change has waited so many seconds (`waits`) for `holder`, and that so
+        many more holders (`more`) were ended. Raises OperationalError if that fails, or takes longer than `seconds`. It is not cancelled then: a
+        change that waits for a replica would be committed without the replica. Such a beat has the lock of the row, so further beats fail after
+        BEAT_WAITS milliseconds."""
+        text = self.composed(f"SET LOCAL lock_timeout = {BEAT_WAITS}; UPDATE {{heartbeat}} SET number = number + 1, moment = clock_timestamp(),"
+                             " waits = {waits}, holder = {holder}, ended = ended + {more} RETURNING number", waits=waits, holder=holder, more=more)
+        return int(run_within(self.connection.pgconn, text, seconds))
+
+    def awaited(self, seconds: float = 3.0) -> list[Holder]:
+        """For whom changes of the store wait, first for whom one has waited longest. Raises OperationalError if the server does not say that within
+        so many seconds."""
+        found = run_within(self.connection.pgconn, self.composed(AWAITED), seconds)
+        return [Holder(*each) for each in json.loads(found or "[]")]
+
+    def end_holder(self, holder: Holder, seconds: float = 3.0) -> bool:
+        """Ends a process, unless its transaction has ended by now. Returns whether the server does that. Raises OperationalError if this account may
+        not, or if the server does not answer within so many seconds."""
+        text = self.composed("SELECT pg_terminate_backend(pid) FROM pg_stat_activity WHERE pid = {process} AND xact_start = {began}::timestamptz"
+                             " AND wait_event IS DISTINCT FROM 'SyncRep'", process=holder.process, began=holder.began)
+        return run_within(self.connection.pgconn, text, seconds) == b"t"
 
     def all(self) -> Iterator[Row]:
         """Yields all entries in the order of their numbers, of one state of the store."""

@@ -126,6 +126,15 @@ def fault_of(texts: list[bytes]) -> tuple[int, str] | None:
     return None
 
 
+def is_canonical(text: bytes) -> bool:
+    """Whether a text is one value in canonical form."""
+    import spki
+    try:
+        return spki.canonical(text) == text
+    except spki.Refused:
+        return False
+
+
 def fault_of_one(text: bytes) -> str | None:
     """Why a text is no entry in canonical form. None if it is one."""
     import spki
