@@ -778,31 +778,35 @@ class InChromium(OfPage):
             self.paste("acl", text)
             self.assertEqual(self.browser.execute_script("return document.getElementById('acl').value"), text)
 
+    def fragment(self, state):
+        """What is behind `#` in a link with a state, an object: a text as it is."""
+        return state if isinstance(state, str) else "q=" + base64.urlsafe_b64encode(json.dumps(state).encode()).decode().rstrip("=")
+
     def go_to_link(self, state):
-        """Opens the page by a link with a state, an object, or with a text behind `#`."""
-        letters = state if isinstance(state, str) else "q=" + base64.urlsafe_b64encode(json.dumps(state).encode()).decode().rstrip("=")
+        """Opens the page by a link with a state, as `fragment` takes it."""
         self.browser.get("about:blank")
-        self.browser.get(f"{self.page.address.geturl()}#{letters}")
+        self.browser.get(f"{self.page.address.geturl()}#{self.fragment(state)}")
 
     def test_a_link_that_cannot_be_read(self) -> None:
-        """A link that was cut off or changed, or has no question, shows what is wrong and no answer, also if it is put into the address of an opened
-        page. Then an example is answered again."""
-        whole = "q=" + base64.urlsafe_b64encode(json.dumps(STORY).encode()).decode().rstrip("=")
+        """A link that was cut off or changed, or has no question, shows what is wrong and no answer: at the start, and if it is put into the address
+        of an opened page. Then an example is answered again."""
+        whole = self.fragment(STORY)
         broken = [whole[:-9], whole[:40], whole[:60] + "!" + whole[60:], whole[:60] + whole[63:], "q=", whole[2:], "Q" + whole[1:], "no-such-place",
                   "q=" + base64.b64encode(b'{"acl": "\xff"}').decode(), *({**STORY, name: 5} for name in STORY if name != "strict"),
                   [], 5, None, {}, [STORY]]
-        for state in broken:
+        for place, state in enumerate(broken):
             with self.subTest(str(state)[:60]):
-                self.go_to_link(state)
+                if place:
+                    self.browser.execute_script("location.hash = arguments[0]", self.fragment(state))
+                else:
+                    self.go_to_link(state)
                 self.until("return document.getElementById('title').textContent.includes('link cannot be read')")
                 self.assertEqual(self.text_in("kind"), "No answer")
                 self.assertEqual(self.browser.execute_script("return document.getElementById('acl').value"), "")
                 self.check_nothing_left()
-        self.browser.execute_script("const list = document.getElementById('example'); list.value = '0'; list.dispatchEvent(new Event('change'))")
-        self.until("return document.getElementById('kind').textContent === 'Yes'")
-        self.browser.execute_script("location.hash = 'q=x'")
-        self.until("return document.getElementById('title').textContent.includes('link cannot be read')")
-        self.assertEqual(self.text_in("kind"), "No answer")
+                self.browser.execute_script("const list = document.getElementById('example'); list.value = '0';"
+                                            "list.dispatchEvent(new Event('change'))")
+                self.until("return document.getElementById('kind').textContent === 'Yes'")
 
     def test_a_signature_of_a_real_key_is_not_ticked(self) -> None:
         """The forged signature of a real key has no tick, and the page does not say that the key signed. A tick that a person sets is not in a link,

@@ -4,6 +4,7 @@ each alone. The compiler must name a line of each, and print there what the row'
 granted is of a kind that docs/GUIDE.md names."""
 import os
 import pathlib
+import re
 import subprocess
 import sys
 import unittest
@@ -18,23 +19,23 @@ from rows.wrong_uses import Row
 SECONDS = 600
 RUST, PYTHON, CRATE = (os.path.join(TOP, *words) for words in (["bindings", "rust"], ["bindings", "python"], ["crates", "spki_c"]))
 WARNINGS = ["-Wall", "-Wextra", "-Wno-unused-function", "-Wno-unused-const-variable", "-Werror"]
-GRANTED = ("a key that was only sent", "a verifier that accepts everything", "a path that is not normalized", "an answer that is kept past its time",
-           "another service's list")
+# The kinds of wrong uses that grant: the first cells of the guide's table of them.
+GUIDE = text_of("docs/GUIDE.md").partition("| A wrong use | What to do |\n|---|---|\n")[2].partition("\n\n")[0]
+GRANTED = re.findall(r"^\| (.*?) \|", GUIDE, re.MULTILINE)
 
 
 class Table(unittest.TestCase):
     """The table itself."""
 
     def test_rows(self) -> None:
-        """There are 40 rows or more, at least 10 in each language. A row that is granted is of one of the kinds of GRANTED, which the guide names."""
+        """There are 40 rows or more, at least 10 in each language. A row that is granted is of one of the kinds that the guide names, each of which
+        has a row."""
         rows = {language: wrong_uses.parts_of(language)[1] for language in wrong_uses.LANGUAGES}
         self.assertGreaterEqual(sum(map(len, rows.values())), 40)
         self.assertGreaterEqual(min(map(len, rows.values())), 10)
-        guide = text_of("docs/GUIDE.md")
-        for row in (row for of_language in rows.values() for row in of_language if row.outcome == "is granted"):
-            kind = next((kind for kind in GRANTED if row.name.startswith(kind)), None)
-            self.assertIsNotNone(kind, row.name)
-            self.assertIn(f"| {kind} |", guide)
+        granted = [row.name for of_language in rows.values() for row in of_language if row.outcome == "is granted"]
+        self.assertEqual([name for name in granted if not name.startswith(tuple(GRANTED))], [])
+        self.assertEqual([kind for kind in GRANTED if not any(name.startswith(kind) for name in granted)], [])
 
 
 @needs.needs(*needs.LIBRARY)
