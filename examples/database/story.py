@@ -49,10 +49,12 @@ def answers(store):
         """Prints `remark` and the answer to a request of these words that a pair signs, with a sequence of certificates. Returns whether the answer
         is `wanted`: the number of the entry that grants, or None for a no."""
         method, target, fields = asked_by(pair, words, certificates)
-        proof = verifier.prove(method, NAME, target, fields.items(), b"")
+        proof = verifier.check(spki_http.Message(method, NAME, target, fields.items(), b""))
         question = spki.Question(proof.sequence, spki.ProvenKey.assume(proof.key), words=[word.encode() for word in words],
                                  moment=datetime.now(timezone.utc))
         number = service.decide(question, verify)
+        if number is not None:
+            verifier.take(proof)  # (only for a yes: strangers could fill the store of nonces)
         print(f"{remark}: {'no' if number is None else f'yes, by entry {number}'}{'' if number == wanted else '; WANTED OTHERWISE'}")
         return number == wanted
 

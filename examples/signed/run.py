@@ -140,7 +140,7 @@ class Service:
         Raises `spki_http.Refused` if the request proves no key, and `ValueError` for another method and for a sequence that is too long, is none,
         or has too many certificates.
         """
-        proof = self.verifier.prove(method, NAME, target, fields.items(), b"")
+        proof = self.verifier.check(spki_http.Message(method, NAME, target, fields.items(), b""))
         if method not in METHODS:
             raise ValueError(f"{method} is neither of {', '.join(METHODS)}")
         if len(proof.sequence) > MOST_SHOWN:
@@ -154,18 +154,23 @@ class Service:
         request = [b"packages", METHODS[method].encode(), urllib.parse.unquote_to_bytes(target)]
         # (labels are for answers in words, and a case has none)
         case = case_of(Asked(self.access_list, read(proof.key), request, moment.encode(), labels=None), node.value)
-        return case, *spki("check", sexp.canonical(case))
+        status, answer = spki("check", sexp.canonical(case))
+        if status == 0:
+            self.verifier.take(proof)  # (only for a yes: strangers could fill the store of nonces)
+        return case, status, answer
 
 
 def requests(story):
     """Yields the requests that come, each as a remark; method, target and fields, as `asked_by` returns them; and the name of the refusal that the
     service must answer, or None if the request proves a key. All are by the key pairs of `story`, a `Story`."""
     alice, bob, carol = story.alice, story.bob, story.carol
-    good = asked_by(carol, READ)
+    granted, denied = asked_by(carol, READ, story.sequence(signed(story.to_carol, bob))), asked_by(carol, READ)
     # (another one, with a nonce of its own, that is changed in what follows)
     method, target, fields = asked_by(carol, READ)
-    yield "Carol signs her request", good, None
-    yield "the same comes again, and its nonce is used up", good, "nonce-seen"
+    yield "Carol signs her request, which is granted", granted, None
+    yield "the same comes again, and its nonce is used up", granted, "nonce-seen"
+    yield "Carol shows no certificates, and is denied", denied, None
+    yield "the same comes again: a no uses up no nonce", denied, None
     yield "Alice signs one, by RSA", asked_by(alice, WRITE), None
     yield "Bob shows Carol's key and signs by his own", asked_by(bob, READ, named=carol), "invalid-signature"
     yield "Carol signed it for another service", asked_by(carol, READ, name="other.example"), "invalid-signature"

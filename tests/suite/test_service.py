@@ -2,10 +2,13 @@
 
 The keys, the list and the certificates are those of examples/signed/run.py. Each request is sent to one process of the service: right ones,
 certificates with a wrong signature or that have expired, requests that another key has signed, that are sent again or were changed, and what is no
-request. The service in C is compiled without warnings, with OpenSSL and with libgcrypt, and driven again under AddressSanitizer and valgrind."""
+request. The service in C is compiled without warnings, with OpenSSL and with libgcrypt, and driven again under AddressSanitizer and valgrind.
+
+A copy of each service, which keeps few nonces, is asked by strangers, whose keys have no right. It must grant what it should after that."""
 from __future__ import annotations
 
 import contextlib
+import json
 import os
 import pathlib
 import socket
@@ -22,7 +25,8 @@ needs.required("import cryptography")
 sys.path.insert(0, os.path.join(EXAMPLES, "signed"))
 import spki_http  # noqa: E402
 import tools  # noqa: E402
-from run import NAME, PASTED, READ, WRITE, Story, asked_by, signed, with_changed_bit, with_digest_of  # noqa: E402
+from run import NAME, PASTED, READ, WRITE, Pair, Story, asked_by, signed, with_changed_bit, with_digest_of  # noqa: E402
+from spki_cert_tool.keys import ED25519  # noqa: E402
 
 FOLDER, PYTHON, RUST = (os.path.join(TOP, *parts) for parts in (("examples", "c"), ("bindings", "python"), ("bindings", "rust")))
 STRICT = ["cc", "-std=c11", "-Wall", "-Wextra", "-Wpedantic", "-Werror", "-O1", "-g"]
@@ -30,8 +34,12 @@ SANITIZED = ["-fsanitize=address,undefined", "-fno-sanitize-recover=all", "-fno-
 VALGRIND = ["valgrind", "--quiet", "--leak-check=full", "--show-leak-kinds=definite,indirect"]
 SECONDS = 120
 # The most lines of each service.
-SERVICES = {"examples/c/service.c": 70, "bindings/rust/examples/service.rs": 60, "bindings/python/examples/service.py": 45,
+SERVICES = {"examples/c/service.c": 70, "bindings/rust/examples/service.rs": 60, "bindings/python/examples/service.py": 46,
             "bindings/go/examples/service/main.go": 45}
+# The most nonces of a copy of a service, and how many strangers ask it: fewer in Rust, since that service runs a program for each signature.
+NONCES, STRANGERS, STRANGERS_IN_RUST = 20, 1_000, 100
+# A request that Bob may make, and the canonical form of a sequence without certificates.
+BY_BOB, NOTHING_SHOWN = ("packages", "read", "/manuals/cook.pdf"), b"(8:sequence)"
 # A request as it is sent: the method, the target and the fields, without `Host`.
 Sent = tuple[str, str, dict[str, str]]
 
@@ -146,32 +154,57 @@ class Service(built.OfLibrary):
         cls.story, cls.path = LastingStory(), os.path.join(cls.room, "acl")
         pathlib.Path(cls.path).write_text(cls.story.access_list, encoding="ascii")
 
-    def check_service(self, *words: str, **settings: str) -> None:
-        """The service that the command `words` starts must grant the requests of `chain_requests` and `proof_requests` that say so, and no others. It
-        must not start on a wrong list, as one of over 1,048,576 octets. No sanitizer nor valgrind may report. `settings` are more environment
-        variables. The path of its list and its name are added to `words`."""
-        environment = {**os.environ, **settings}
+    @contextlib.contextmanager
+    def served(self, *words: str, **settings: str) -> Iterator[int]:
+        """Has the command `words`, with the path of the list and the name of the service behind it, serve at the port that this yields. It must not
+        end before the test, and no sanitizer nor valgrind may report. `settings` are more environment variables."""
         with open(os.path.join(self.room, "errors"), "w+b") as errors, subprocess.Popen(
-                [*words, self.path, NAME], stdout=subprocess.PIPE, stderr=errors, env=environment) as service:
+                [*words, self.path, NAME], stdout=subprocess.PIPE, stderr=errors, env={**os.environ, **settings}) as service:
             try:
                 assert service.stdout is not None
-                port = int(service.stdout.readline())
-                for remark, sent, wanted in (*chain_requests(self.story), *proof_requests(self.story)):
-                    with self.subTest(remark):
-                        self.assertEqual(is_granted(port, sent), wanted)
-                for octets in NO_REQUESTS:
-                    self.assertNotIn(b" 200 ", first_line_for(port, octets))
-                self.assertTrue(is_granted(port, asked_by(self.story.alice, READ)))
+                yield int(service.stdout.readline())
                 self.assertIsNone(service.poll())
             finally:
                 service.terminate()
                 service.wait()
             errors.seek(0)
             self.assertNotRegex(errors.read(), rb"lost in|Invalid|uninitialised|ERROR")  # (words of both reports)
+
+    def check_strangers(self, *words: str, strangers: int = STRANGERS, **settings: str) -> None:
+        """A service that keeps NONCES nonces must deny the requests of so many strangers, who sign them rightly. Then it must grant NONCES of Bob's,
+        each only once, and no more: so none of the strangers used up a nonce. The words are those of `served`."""
+        with self.served(*words, **settings) as port:
+            # (they are signed behind the start of the service: what was created before that is refused)
+            asked = [asked_by(Pair(ED25519), (READ, WRITE, PASTED)[place % 3], NOTHING_SHOWN) for place in range(strangers)]
+            self.assertEqual([sent for sent in asked if is_granted(port, sent)], [])
+            for _ in range(NONCES):
+                sent = asked_by(self.story.bob, BY_BOB, NOTHING_SHOWN)
+                self.assertEqual([is_granted(port, sent), is_granted(port, sent)], [True, False])
+            self.assertFalse(is_granted(port, asked_by(self.story.bob, BY_BOB, NOTHING_SHOWN)))
+
+    def changed_copy(self, path: str, old: str, new: str) -> str:
+        """Copies a file, whose path from the top of the repository is given, with another text in place of `old`, which it must have once. Returns
+        the path of the copy."""
+        text, copy = text_of(path), os.path.join(self.room, os.path.basename(path))
+        self.assertEqual(text.count(old), 1, path)
+        pathlib.Path(copy).write_text(text.replace(old, new), encoding="utf-8")
+        return copy
+
+    def check_service(self, *words: str, **settings: str) -> None:
+        """The service that the command `words` starts must grant the requests of `chain_requests` and `proof_requests` that say so, and no others. It
+        must not start on a wrong list, as one of over 1,048,576 octets. The words are those of `served`."""
+        with self.served(*words, **settings) as port:
+            for remark, sent, wanted in (*chain_requests(self.story), *proof_requests(self.story)):
+                with self.subTest(remark):
+                    self.assertEqual(is_granted(port, sent), wanted)
+            for octets in NO_REQUESTS:
+                self.assertNotIn(b" 200 ", first_line_for(port, octets))
+            self.assertTrue(is_granted(port, asked_by(self.story.alice, READ)))
         for text in ("(acl (entry (public-key (test a))))", "(acl) (acl)", "(acl)".ljust(1_048_577), ""):
             path = pathlib.Path(self.room, "wrong")
             path.write_text(text, encoding="ascii")
-            done: Any = subprocess.run([*words, str(path), NAME], stdout=subprocess.PIPE, stderr=subprocess.PIPE, timeout=SECONDS, env=environment)
+            done: Any = subprocess.run([*words, str(path), NAME], stdout=subprocess.PIPE, stderr=subprocess.PIPE, timeout=SECONDS,
+                                       env={**os.environ, **settings})
             self.assertEqual((done.returncode == 0, done.stdout), (False, b""), text[:99])
 
     def test_lines(self) -> None:
@@ -184,16 +217,20 @@ class Service(built.OfLibrary):
 class InC(Service):
     """The service in C with OpenSSL, also under AddressSanitizer and under valgrind, and with libgcrypt."""
 
-    def compile(self, *more: str, verifier: str = "verify_openssl.c", library: str = "-lcrypto") -> str:
+    def compile(self, *more: str, verifier: str = "verify_openssl.c", library: str = "-lcrypto", path: str = "service.c") -> str:
         """Compiles the service without warnings, with more options of the compiler. Returns its path. `verifier` is the source that verifies
-        signatures, and `library` the option that links what it uses."""
+        signatures, `library` the option that links what it uses, and `path` that of the service's source."""
         service = os.path.join(self.room, self.id())
-        sources = [os.path.join(FOLDER, name) for name in ("service.c", "http_request.c", "http_nonces.c", verifier)]
+        sources = [os.path.join(FOLDER, name) for name in (path, "http_request.c", "http_nonces.c", verifier)]
         self.assertTrue(is_compiled(*STRICT, *more, "-o", service, *sources, self.library, library), "service.c is not compiled")
         return service
 
     def test_service(self) -> None:
         self.check_service(self.compile())
+
+    def test_strangers(self) -> None:
+        path = self.changed_copy("examples/c/service.c", "MOST_NONCES = 100000", f"MOST_NONCES = {NONCES}")
+        self.check_strangers(self.compile("-I", FOLDER, path=path))
 
     @needs.needs("/usr/include/gcrypt.h")
     def test_service_by_gcrypt(self) -> None:
@@ -217,11 +254,39 @@ class InOtherLanguages(Service):
         self.assertEqual(status, 0, output)
         self.check_service(os.path.join(RUST, "out", "debug", "examples", "service"))
 
+    @needs.needs("cargo", "openssl")
+    def test_strangers_in_rust(self) -> None:
+        """It is built as a crate of its own, beside the module that it shares with other examples."""
+        self.changed_copy("bindings/rust/examples/service.rs", "Nonces::new(100_000)", f"Nonces::new({NONCES})")
+        os.symlink(os.path.join(RUST, "examples", "by_openssl"), os.path.join(self.room, "by_openssl"))
+        pathlib.Path(self.room, "Cargo.toml").write_text(
+            '[package]\nname = "service"\nversion = "0.0.0"\nedition = "2021"\n\n[[bin]]\nname = "service"\npath = "service.rs"\n\n'
+            f'[dependencies]\nspki = {{ path = "{RUST}" }}\n', encoding="utf-8")
+        target = os.path.join(self.room, "target")
+        settings = {**os.environ, **CARGO, "SPKI_LIB_DIR": os.path.dirname(self.library), "CARGO_TARGET_DIR": target}
+        status, output = output_of("cargo", "build", "--quiet", cwd=self.room, env=settings, seconds=SECONDS)
+        self.assertEqual(status, 0, output)
+        self.check_strangers(os.path.join(target, "debug", "service"), strangers=STRANGERS_IN_RUST)
+
     def test_python(self) -> None:
         self.check_service(sys.executable, os.path.join(PYTHON, "examples", "service.py"), PYTHONPATH=PYTHON, SPKI_LIBRARY=self.shared)
+
+    def test_strangers_in_python(self) -> None:
+        path = self.changed_copy("bindings/python/examples/service.py", "spki_http.Verifier(name)",
+                                 f"spki_http.Verifier(name, nonces=spki_http.Memory({NONCES}))")
+        self.check_strangers(sys.executable, path, PYTHONPATH=PYTHON, SPKI_LIBRARY=self.shared)
 
     @needs.needs("go")
     def test_go(self) -> None:
         program = os.path.join(self.room, "service")
         golang.go(golang.MODULE, ["build", "-o", program, "./examples/service"], self.library).check_returncode()
         self.check_service(program)
+
+    @needs.needs("go")
+    def test_strangers_in_go(self) -> None:
+        path, serving = "bindings/go/examples/service/main.go", "\tlog.Fatal(http.Serve("
+        copy = self.changed_copy(path, serving, f"\tverifier.Nonces = httpsig.NewMemory({NONCES})\n{serving}")
+        overlay, program = pathlib.Path(self.room, "overlay"), os.path.join(self.room, "service-of-few")
+        overlay.write_text(json.dumps({"Replace": {os.path.join(TOP, path): copy}}), encoding="utf-8")
+        golang.go(golang.MODULE, ["build", "-overlay", str(overlay), "-o", program, "./examples/service"], self.library).check_returncode()
+        self.check_strangers(program)

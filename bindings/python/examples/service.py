@@ -22,12 +22,13 @@ class Handler(http.server.BaseHTTPRequestHandler):
             if not 0 <= length <= MOST:
                 raise ValueError(f"the length of the body is not from 0 to {MOST}")
             body, status = self.rfile.read(length), 403
-            proof = verifier.prove(self.command, host, self.path, self.headers.items(), body)
+            proof = verifier.check(spki_http.Message(self.command, host, self.path, self.headers.items(), body))
             if posixpath.normpath(self.path) != self.path or "%" in self.path or "?" in self.path:
                 raise ValueError("the path is not normal")
             words = b"packages", ACTIONS[self.command], self.path.encode()
             question = spki.Question(proof.sequence, spki.ProvenKey.assume(proof.key), words=words, moment=datetime.now(timezone.utc))
-            grant = guard.decide(question, spki_verify.verify)
+            if grant := guard.decide(question, spki_verify.verify):
+                verifier.take(proof)  # (only for a yes: strangers could fill the store of nonces)
             status, text = (200, f"yes entry {grant.entry}") if grant else (403, f"no\n{guard.explain(question, spki_verify.verify)}")
         except (spki_http.Refused, spki.Refused, ValueError) as why:
             text = str(why)

@@ -1,9 +1,12 @@
 """Proves the client's key in each HTTP request, by HTTP Message Signatures (RFC 9421). docs/SIGNATURES.md is the
 profile.
 
-    proof = verifier.prove(self.command, self.headers["Host"], self.path, self.headers.items(), body)  # a service; may raise Refused
-    requests.put(url, data=body, auth=spki_http.Auth(signer, "files.example.org"))                     # a client
+    proof = verifier.check(spki_http.Message(self.command, self.headers["Host"], self.path, self.headers.items(), body))  # may raise Refused
+    if guard.decide(spki.Question(proof.sequence, spki.ProvenKey.assume(proof.key), ..), verify):
+        verifier.take(proof)  # may raise Refused: the service acts behind it
+    requests.put(url, data=body, auth=spki_http.Auth(signer, "files.example.org"))  # a client
 
+Nonces are taken for a yes alone: anybody can make keys, and requests that are denied would fill the store.
 It needs neither the package `spki` nor the library. Signatures are verified by `spki_verify`, which needs
 `cryptography`, or by another function.
 """

@@ -18,7 +18,7 @@ fn grant(guard: &Guard, requests: &Requests, head: &str) -> Option<()> {
     let now = SystemTime::now();
     let seconds = now.duration_since(UNIX_EPOCH).ok()?.as_secs();
     let verify = |signature: Signature<'_>| Openssl.verify(signature);
-    let proof = requests.prove(&head.message(), seconds, verify).ok()?;
+    let proof = requests.check(&head.message(), seconds, verify).ok()?;
     let excluded = ["%", "?", "//", "/."]; // (escape, query, empty part, part that begins with `.`)
     let is_normal = !excluded.iter().any(|part| head.target.contains(part));
     if head.method != "GET" || !is_normal {
@@ -26,7 +26,8 @@ fn grant(guard: &Guard, requests: &Requests, head: &str) -> Option<()> {
     }
     let words = [b"packages", &b"read"[..], head.target.as_bytes()];
     let question = Question::new(&proof.sequence, &proof.key, Request::Words(&words), now);
-    guard.decide_by(&question, &mut Openssl).ok().map(|_| ())
+    guard.decide_by(&question, &mut Openssl).ok()?;
+    requests.take(&proof, seconds).ok() // (only for a yes: strangers could fill the store of nonces)
 }
 
 /// Reads the head of one request, and answers by its status alone. A client that sends nothing for 5 seconds, or no UTF-8, gets no answer.

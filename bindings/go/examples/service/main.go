@@ -29,13 +29,14 @@ func main() {
 	verifier := httpsig.NewVerifier(flag.Arg(1)) // (the name by which clients ask for the service)
 	log.Fatal(http.Serve(listener, http.HandlerFunc(func(answer http.ResponseWriter, request *http.Request) {
 		var decision guard.Decision
-		proof, err := verifier.Request(request)
-		if err == nil {
+		proof, err := verifier.Check(httpsig.MessageOf(request))
+		isNormal := path.Clean(request.URL.Path) == request.RequestURI // (no `..`, no escape such as %2e, and no query)
+		if err == nil && isNormal && request.Method == http.MethodGet {
 			words := []string{"packages", "read", request.RequestURI}
 			decision, err = list.Decide(guard.Question{Sequence: proof.Sequence, Key: proof.Key, Words: words, Time: time.Now()}, verify.Signature)
 		}
-		isNormal := path.Clean(request.URL.Path) == request.RequestURI // (no `..`, no escape such as %2e, and no query)
-		if err != nil || !decision.Granted() || request.Method != http.MethodGet || !isNormal {
+		// (the nonce is taken only for a yes: strangers could fill the store of nonces)
+		if err != nil || !decision.Granted() || verifier.Take(proof) != nil {
 			http.Error(answer, "denied", http.StatusForbidden)
 		}
 	})))
