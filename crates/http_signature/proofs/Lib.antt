@@ -1,0 +1,2 @@
+pub mod Generations
+pub mod OnceTaken
