@@ -3,5 +3,9 @@
 
 pub mod laws;
 mod nonces;
+mod octets;
+mod refusal;
 
 pub use nonces::{NonceFault, Nonces};
+pub use octets::Octets;
+pub use refusal::Refusal;
