@@ -1,3 +1,5 @@
+pub mod BaseLines
 pub mod Generations
+pub mod Lines
 pub mod OnceTaken
 pub mod Texts

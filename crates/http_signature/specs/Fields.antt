@@ -1,20 +1,21 @@
--- Names and values of fields (RFC 9110, section 5; RFC 9421, section 2.1).
-use Rattle.std.specs.Prelude.{ℕ, List, [], ◌∷◌, Bool, ◌||◌, ◌==◌, map, reverse, if◌then◌else◌}
-use Rattle.std.specs.Char.{to_ascii_lowercase}
+-- The lines of fields (RFC 9110, section 5; RFC 9421, section 2.1).
+use Rattle.std.specs.{Prelude.{ℕ, List, [], ◌∷◌, ◌++◌, Bool, codes, if◌then◌else◌}, Str.{bytes_eq}}
+use Rattle.http_signature.specs.{declared.request.Field.{Field}, Texts.{lower, trimmed}}
 
--- letters in lower case
-abbrev pub lower : List ℕ → List ℕ
-lower text = map to_ascii_lowercase text
+-- the line is of the field with this name
+abbrev pub is_named : List ℕ → Field → Bool
+is_named name field = bytes_eq (lower field.name) (lower name)
 
--- space or tab
-abbrev pub is_blank : ℕ → Bool
-is_blank octet = (octet == 32) || (octet == 9)
+-- the values of the lines of a field, in order, without the spaces and tabs around each
+abbrev pub lines_of : List Field → List ℕ → List (List ℕ)
+lines_of [] name = []
+lines_of (field ∷ fields) name = if is_named name field then trimmed field.value ∷ lines_of fields name else lines_of fields name
 
--- without the spaces and tabs in front
-abbrev pub trim_start : List ℕ → List ℕ
-trim_start [] = []
-trim_start (octet ∷ text) = if is_blank octet then trim_start text else octet ∷ text
+-- a text with further values behind it, a comma and a space before each
+abbrev pub joined_onto : List ℕ → List (List ℕ) → List ℕ
+joined_onto text [] = text
+joined_onto text (value ∷ values) = joined_onto (text ++ codes ", " ++ value) values
 
--- without those around it
-abbrev pub trimmed : List ℕ → List ℕ
-trimmed text = reverse (trim_start (reverse (trim_start text)))
+abbrev pub joined : List (List ℕ) → List ℕ
+joined [] = []
+joined (value ∷ values) = joined_onto value values

@@ -1,7 +1,7 @@
 //! Octets of a request.
 
 ghost use Rattle.std.specs.{Prelude.{◌≡◌, ℕ, List, reverse}, Str.{bytes_eq}};
-ghost use Rattle.http_signature.specs.Fields.{trim_start, trimmed, lower};
+ghost use Rattle.http_signature.specs.Texts.{trim_start, trimmed, lower};
 
 use std::marker::Model;
 

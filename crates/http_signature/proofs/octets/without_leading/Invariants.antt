@@ -1,5 +1,5 @@
 use Rattle.std.proofs.Common.{◌≡◌, length}
-use Rattle.http_signature.specs.Fields.{trim_start}
+use Rattle.http_signature.specs.Texts.{trim_start}
 use Rattle.http_signature.proofs.octets.without_leading.Given as goal
 
 abbrev pub invariant-loop-rest : goal.invariant-loop-rest

@@ -1,6 +1,6 @@
 use Rattle.std.proofs.Common.{◌≡◌, length}
 use Rattle.std.specs.Prelude.{reverse}
-use Rattle.http_signature.specs.Fields.{trim_start}
+use Rattle.http_signature.specs.Texts.{trim_start}
 use Rattle.http_signature.proofs.octets.without_trailing.Given as goal
 
 abbrev pub invariant-loop-rest : goal.invariant-loop-rest
