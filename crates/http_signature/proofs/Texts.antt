@@ -1,5 +1,5 @@
 -- Texts that are compared.
-use Rattle.std.proofs.Common.{◌≡◌, ◌≤◌, ℕ, List, Bool, true, false, not, cond, nat_lt, length, Option, Some, None, refl, ◌↔◌, sym, ◌∙◌, arith}
+use Rattle.std.proofs.Common.{◌≡◌, ◌≤◌, ℕ, List, Bool, true, false, not, cond, nat_lt, length, Some, None, refl, ◌↔◌, sym, arith}
 use Rattle.std.specs.{Prelude.{IsTrue, position}, List.{position_or_len}, Str.{bytes_eq}}
 use Rattle.std.proofs.lemmas.{Slice.Eq.{bytes_eq-Decides}, Bool.Decides.{nat_tests}, List.Sums.{prefix_len-le-length}}
 

@@ -3,13 +3,17 @@
 
 mod base;
 mod characters;
+mod input;
 pub mod laws;
 mod nonces;
 mod octets;
+mod parameters;
+mod pieces;
 mod refusal;
 mod request;
 
 pub use base::signature_base;
+pub use input::{SignatureInput, signature_value};
 pub use nonces::{NonceFault, Nonces};
 pub use octets::Octets;
 pub use refusal::Refusal;
