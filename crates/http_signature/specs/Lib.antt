@@ -1,0 +1,11 @@
+pub mod Base
+pub mod Characters
+pub mod Components
+pub mod Fields
+pub mod Input
+pub mod Nonces
+pub mod Pieces
+pub mod Readings
+pub mod SignatureInput
+pub mod Stores
+pub mod Texts
