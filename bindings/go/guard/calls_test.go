@@ -10,7 +10,7 @@ import (
 	"conguraki/spki/guard"
 )
 
-// manyCalls is more than the calls of the library that may last at once, and than the threads of a process that makes so many.
+// manyCalls is more than the calls of the library that may last at once.
 var manyCalls = 3*runtime.GOMAXPROCS(0) + 100
 
 // TestVerifiersThatAsk has more goroutines than calls may last at once, all in their verifiers at the same time. There each asks the guard once more,

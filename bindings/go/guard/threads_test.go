@@ -8,38 +8,33 @@ package guard_test
 import (
 	"os"
 	"regexp"
+	"runtime"
 	"strconv"
+	"strings"
 	"sync"
 	"testing"
-
-	"conguraki/spki/guard"
 )
 
-// TestManyGoroutines has 20,000 goroutines decide at once. The questions of the first, which show so many certificates that no entry grants, take
-// some milliseconds to be read. Go keeps each thread that it began, so at the end the process has as many as it ever had: without a bound it would
-// have one for each call that lasts, and Go would end it at 10,000.
+// TestManyGoroutines has 20,000 goroutines ask at once. The first 100 want to know why each of 10,000 entries grants, which takes milliseconds. The
+// others decide. Go keeps each thread that it began, so at the end the process has as many as it ever had: on four processors at most 64 for calls,
+// and some ten beside them. Without a bound it has one for each call that lasts, and Go ends a process with 10,000.
 func TestManyGoroutines(t *testing.T) {
-	opened, err := guard.Open([]byte(list), guard.Strict, guard.Highest())
-	if err != nil {
-		t.Fatal(err)
-	}
-	defer opened.Close()
-	long := questionWith(1000)
+	opened, long := openGuard(t, list), openGuard(t, "(acl "+strings.Repeat("(entry (public-key (test a)) (propagate) (tag (*)))", 10_000)+")")
 	start := make(chan struct{})
 	var all sync.WaitGroup
 	all.Add(20_000)
 	for routine := 0; routine < 20_000; routine++ {
-		question, granted := questionWith(1), true
-		if routine < 2*manyCalls {
-			question, granted = long, false
-		}
-		go func() {
+		go func(explains bool) {
 			defer all.Done()
 			<-start
-			if decision, err := opened.Decide(question, acceptAll); err != nil || decision.Granted() != granted {
+			if explains {
+				if explanation, err := long.Explain(questionWith(1), acceptAll); err != nil || !strings.HasSuffix(explanation.String(), "entry 10000 grants") {
+					t.Error(err)
+				}
+			} else if decision, err := opened.Decide(questionWith(1), acceptAll); err != nil || !decision.Granted() {
 				t.Errorf("%v, %v", decision, err)
 			}
-		}()
+		}(routine < 100)
 	}
 	close(start)
 	all.Wait()
@@ -48,7 +43,7 @@ func TestManyGoroutines(t *testing.T) {
 	if err != nil || found == nil {
 		t.Fatal(err)
 	}
-	if threads, err := strconv.Atoi(string(found[1])); err != nil || threads > manyCalls {
+	if threads, err := strconv.Atoi(string(found[1])); err != nil || threads > 3*runtime.GOMAXPROCS(0)+72 {
 		t.Errorf("%d threads", threads)
 	}
 }
