@@ -419,13 +419,13 @@ func (r *endlessRows) Next(row []driver.Value) error {
 	return nil
 }
 
-// TestPoolOfManyRows reads rows without end. The second of half a MiB is one too many, since 1 MiB must also have room for `(3:acl` and `)`. Then
-// their connection is closed, and no other one.
+// TestPoolOfManyRows reads rows without end. The ninth of half a MiB is one too many: the rows of a principal have at most 4 MiB. Then their connection
+// is closed, and no other one.
 func TestPoolOfManyRows(t *testing.T) {
 	endless, many, other := new(endlessRows), new(fakeConn), new(fakeConn)
 	many.rows = endless
 	pool := newPoolOf(t, t.TempDir(), 3, many, other)
-	if _, err := pool.rows(digestsOf(nil)); !errors.Is(err, errMany) || endless.count != 2 {
+	if _, err := pool.rows(digestsOf(nil)); !errors.Is(err, errMany) || endless.count != 9 {
 		t.Errorf("%v after %d rows", err, endless.count)
 	}
 	if _, err := pool.chains(digest{}); err != nil || !many.isClosed || other.isClosed {
