@@ -805,12 +805,20 @@ class Holders(OfStore):
         """An adder whose entry waits for a replica has changed the store already, and is not ended. The heartbeat waits for no replica here."""
         beats = self.beats("bea", "pg_signal_backend", "pg_read_all_stats")
         beats.store.rows("SET synchronous_commit = local")
-        change_setting(self.server, "synchronous_standby_names", "ANY 1 (*)")
-        self.addCleanup(change_setting, self.server, "synchronous_standby_names", "")
-        adder = threading.Thread(target=self.ann.add, args=(ENTRY,))
-        adder.start()
+        one_waits = threading.Event()
+
+        def add() -> None:
+            """Adds entries until one waits. (The server takes the setting a moment later, so the first ones may not wait.)"""
+            while not one_waits.is_set():
+                self.ann.add(ENTRY)
+        adder = threading.Thread(target=add)
         self.addCleanup(adder.join)
+        self.addCleanup(one_waits.set)
+        self.addCleanup(change_setting, self.server, "synchronous_standby_names", "")
+        change_setting(self.server, "synchronous_standby_names", "ANY 1 (*)")
+        adder.start()
         waits_for("the adder waits for a replica", lambda: bool(self.store.rows("SELECT 1 FROM pg_stat_activity WHERE wait_event = 'SyncRep'")))
+        one_waits.set()
         removal = self.start_removal(self.number)
         self.assertIn("is not ended: it waits for a replica", self.look_until_told(beats, 1))
         change_setting(self.server, "synchronous_standby_names", "")
