@@ -27,8 +27,8 @@ size_t spki_c_guard_entries(struct handle *guard);
 uint32_t spki_c_guard_ask(struct handle *guard, struct parts parts, const struct spki_text *words, size_t word_count, const int64_t *seconds,
                           size_t count, struct handle *asked, BUFFER_PARAMS);
 size_t spki_c_asked_count(struct handle *asked);
-uint32_t spki_c_asked_signature(struct handle *asked, size_t place, struct texts *texts);
-uint32_t spki_c_asked_mark(struct handle asked, size_t place, struct handle *back);
+uint32_t spki_c_asked_signature(struct handle *asked, size_t index, struct texts *texts);
+uint32_t spki_c_asked_mark(struct handle asked, size_t index, struct handle *back);
 bool spki_c_asked_granted(struct handle *asked);
 bool spki_c_asked_possible(struct handle *asked);
 uint32_t spki_c_asked_answer(uint32_t query, struct handle *asked, int64_t *until, BUFFER_PARAMS);
@@ -134,12 +134,12 @@ void spki_asked_close(spki_asked *asked)
         close_handle(true, asked);
 }
 
-enum spki_status spki_asked_signature(const spki_asked *asked, size_t place, struct spki_signed *signature)
+enum spki_status spki_asked_signature(const spki_asked *asked, size_t index, struct spki_signed *signature)
 {
     /* (the proved library takes no null address for a text, also for one that it sets) */
     static const struct spki_text empty = {"", 0};
     struct texts texts = {{empty, empty, empty, empty}, false};
-    enum spki_status status = asked && signature ? spki_c_asked_signature(LENT(asked), place, &texts) : SPKI_MISUSED;
+    enum spki_status status = asked && signature ? spki_c_asked_signature(LENT(asked), index, &texts) : SPKI_MISUSED;
     if (signature)
         *signature = status == SPKI_DONE ? texts.signature : (struct spki_signed){0};
     if (status == SPKI_DONE && !texts.is_string)
@@ -147,12 +147,12 @@ enum spki_status spki_asked_signature(const spki_asked *asked, size_t place, str
     return status;
 }
 
-enum spki_status spki_asked_mark(spki_asked *asked, size_t place)
+enum spki_status spki_asked_mark(spki_asked *asked, size_t index)
 {
     struct handle back = {0};
     if (!asked)
         return SPKI_MISUSED;
-    enum spki_status status = spki_c_asked_mark((struct handle){asked}, place, &back);
+    enum spki_status status = spki_c_asked_mark((struct handle){asked}, index, &back);
     must_be_at(asked, back);
     return status;
 }

@@ -10,16 +10,16 @@
  *     struct spki_question question = {.size = sizeof question};
  *     struct spki_signed signature;
  *     unsigned char line[64];
- *     size_t place;
+ *     size_t index;
  *     if (spki_guard_open(list, list_length, SPKI_STRICT, NULL, &guard, line, sizeof line, NULL) != SPKI_DONE) ...
  *     question.sequence = ...                    from the client
  *     question.key = spki_assume_key(...)        of the client, who has proved to hold it, as by TLS; or by spki_prove_key
  *     question.words = ...                       what is asked for
  *     question.seconds = ...                     now
  *     if (spki_guard_ask(guard, &question, &asked, line, sizeof line, NULL) != SPKI_DONE) ...
- *     for (place = 0; spki_asked_signature(asked, place, &signature) == SPKI_DONE; place++)
+ *     for (index = 0; spki_asked_signature(asked, index, &signature) == SPKI_DONE; index++)
  *         if (is_signed(&signature))
- *             spki_asked_mark(asked, place);
+ *             spki_asked_mark(asked, index);
  *     if (spki_asked_granted(asked)) ...                                  the only test of a yes, and for this moment alone
  *     spki_asked_close(asked);
  *
@@ -113,7 +113,7 @@ enum spki_status {
     SPKI_TOO_SMALL = 4, /* the buffer is too small: its first octet is 0, and `*needed` is the length of the answer */
     SPKI_MISUSED = 5,   /* no such command, a null pointer with a length, or another misuse: there is no answer, and `*needed` is 0 */
     SPKI_DONE = 6,      /* no decision: the call is done. It does not say whether the request is granted */
-    SPKI_NONE = 7,      /* spki_string: the value has no string there. spki_asked_signature: there is no signature at this place */
+    SPKI_NONE = 7,      /* spki_string: the value has no string there. spki_asked_signature: there is no signature at this index */
     SPKI_NO_MEMORY = 8, /* spki_string, spki_asked_signature: an allocation failed. The other calls answer `refused Memory` then */
     SPKI_YES = 9        /* a decision: the request is granted. Only decisions return it */
 };
@@ -200,20 +200,20 @@ struct spki_limits {
 };
 
 /* The most octets, nodes and work that limits may set. */
-#define SPKI_MOST_OCTETS 1048576
-#define SPKI_MOST_NODES 1000000
-#define SPKI_MOST_WORK 1000000000
+#define SPKI_MAX_OCTETS 1048576
+#define SPKI_MAX_NODES 1000000
+#define SPKI_MAX_WORK 1000000000
 
 /* The usual limit of an answer, and the most that the bindings for other languages let a limit be: before a call they take memory for as many
  * octets, of which only those of the answer are used, and so no call is made twice. */
 #define SPKI_USUAL_ANSWER 1048576
-#define SPKI_MOST_ANSWER 268435456
+#define SPKI_MAX_ANSWER 268435456
 
 /* An initialiser of a struct spki_limits: the usual limits, which are those of 0, and the highest. On some questions within the highest an
  * explanation takes seconds. */
 #define SPKI_USUAL_LIMITS {sizeof(struct spki_limits), 0, 0, 0, 0, 0, 0}
 #define SPKI_HIGHEST_LIMITS \
-    {sizeof(struct spki_limits), SPKI_MOST_OCTETS, SIZE_MAX, SIZE_MAX, SPKI_MOST_NODES, SPKI_MOST_WORK, SPKI_MOST_ANSWER}
+    {sizeof(struct spki_limits), SPKI_MAX_OCTETS, SIZE_MAX, SIZE_MAX, SPKI_MAX_NODES, SPKI_MAX_WORK, SPKI_MAX_ANSWER}
 
 /* An access list that is read once and asked often. No question changes it. */
 typedef struct spki_guard spki_guard;
@@ -303,18 +303,18 @@ SPKI_RESULT enum spki_status spki_guard_ask(const spki_guard *guard, const struc
 /* The number of signatures that are to be verified; 0 if the pointer is null. No other signature of the question matters. */
 size_t spki_asked_count(const spki_asked *asked);
 
-/* Sets `*signature` to the signature at this place, from 0.
+/* Sets `*signature` to the signature at this index, from 0.
  *
- * SPKI_DONE: it is set. With every other status all of it is null and 0. SPKI_NONE: the question has no more signatures than `place`.
+ * SPKI_DONE: it is set. With every other status all of it is null and 0. SPKI_NONE: the question has no more signatures than `index`.
  * SPKI_NO_MEMORY: an allocation failed. SPKI_MISUSED: a pointer is null, or `asked` is that of a guard. */
-SPKI_RESULT enum spki_status spki_asked_signature(const spki_asked *asked, size_t place, struct spki_signed *signature);
+SPKI_RESULT enum spki_status spki_asked_signature(const spki_asked *asked, size_t index, struct spki_signed *signature);
 
-/* Says that the signature at this place, from 0, is valid. Nothing is valid that is not marked. A mark is for its place alone, also if the
+/* Says that the signature at this index, from 0, is valid. Nothing is valid that is not marked. A mark is for its index alone, also if the
  * same signature is there twice, and it cannot be taken back.
  *
- * SPKI_DONE: the place is marked. SPKI_MISUSED: the question has no signature at this place, or the pointer is null or that of a guard.
+ * SPKI_DONE: it is marked. SPKI_MISUSED: the question has no signature at this index, or the pointer is null or that of a guard.
  * Nothing is marked then, so the result may be ignored. */
-enum spki_status spki_asked_mark(spki_asked *asked, size_t place);
+enum spki_status spki_asked_mark(spki_asked *asked, size_t index);
 
 /* Whether the request is granted, if exactly the marked signatures are valid. True is the only yes. False if the pointer is null. Nothing is
  * allocated. A question may be decided any number of times.

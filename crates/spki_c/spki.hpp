@@ -42,7 +42,7 @@ inline std::string_view view_of(spki_text text) noexcept
     return {static_cast<const char *>(text.octets), text.length};
 }
 
-/* The usual limits and the highest. A copy of one may be changed. A field of 0 is the usual limit, and `answer` is at most SPKI_MOST_ANSWER. */
+/* The usual limits and the highest. A copy of one may be changed. A field of 0 is the usual limit, and `answer` is at most SPKI_MAX_ANSWER. */
 inline constexpr spki_limits usual_limits = SPKI_USUAL_LIMITS;
 inline constexpr spki_limits highest_limits = SPKI_HIGHEST_LIMITS;
 
@@ -184,17 +184,17 @@ public:
     /* How many signatures are to be verified. */
     std::size_t size() const noexcept { return spki_asked_count(handle.get()); }
 
-    /* The signature at a place, from 0. Its texts last as long as this object. Throws std::logic_error if there is none, or if the
+    /* The signature at an index, from 0. Its texts last as long as this object. Throws std::logic_error if there is none, or if the
      * library gets no memory. */
-    spki::signature signature(std::size_t place) const
+    spki::signature signature(std::size_t index) const
     {
         spki_signed texts;
-        require_done(spki_asked_signature(handle.get(), place, &texts));
+        require_done(spki_asked_signature(handle.get(), index, &texts));
         return {view_of(texts.key), view_of(texts.message), view_of(texts.value), view_of(texts.octets)};
     }
 
-    /* Says that the signature at a place, from 0, is valid. Throws std::logic_error if there is none. */
-    void mark(std::size_t place) { require_done(spki_asked_mark(handle.get(), place)); }
+    /* Says that the signature at an index, from 0, is valid. Throws std::logic_error if there is none. */
+    void mark(std::size_t index) { require_done(spki_asked_mark(handle.get(), index)); }
 
     /* Whether the request would be granted if all signatures were valid. If not, none has to be verified. True grants nothing. */
     bool possible() const noexcept { return spki_asked_possible(handle.get()); }
@@ -203,10 +203,10 @@ public:
      * throws, those before stay marked. */
     template <typename Verify> valid_count verify(Verify &&verify)
     {
-        std::size_t place = 0;
-        for (; place < size() && is_valid(verify, signature(place)); place++)
-            mark(place);
-        return {place};
+        std::size_t index = 0;
+        for (; index < size() && is_valid(verify, signature(index)); index++)
+            mark(index);
+        return {index};
     }
 
     /* Whether the request is granted, if exactly the marked signatures are valid. A no too if the library gets no memory. */
@@ -227,17 +227,17 @@ private:
     };
     std::unique_ptr<spki_asked, close> handle;
     /* The octets of the longest answer. */
-    std::size_t room;
+    std::size_t capacity;
 
     friend class guard;
-    asked(spki_asked *handle, std::size_t room) noexcept : handle(handle), room(room) {}
+    asked(spki_asked *handle, std::size_t capacity) noexcept : handle(handle), capacity(capacity) {}
 
     /* The lines that spki_asked_explain or spki_asked_reduce writes. */
     template <typename Call> std::string lines(Call call) const
     {
-        const std::unique_ptr<char[]> lines(new char[room]);
+        const std::unique_ptr<char[]> lines(new char[capacity]);
         std::size_t length = 0;
-        const spki_status status = call(handle.get(), lines.get(), room, &length).status;
+        const spki_status status = call(handle.get(), lines.get(), capacity, &length).status;
         require_done(status, lines.get(), length);
         return std::string(lines.get(), length);
     }
@@ -249,13 +249,13 @@ public:
     /* Reads an access list. Throws `refused` if it is none, std::logic_error if a limit is over the highest, and std::runtime_error if the library is
      * of another version. */
     explicit guard(std::string_view list, spki_policy policy = SPKI_STRICT, const spki_limits &limits = usual_limits)
-        : room(std::max<std::size_t>(limits.answer ? limits.answer : SPKI_USUAL_ANSWER, line_room))
+        : capacity(std::max<std::size_t>(limits.answer ? limits.answer : SPKI_USUAL_ANSWER, line_capacity))
     {
-        char line[line_room];
+        char line[line_capacity];
         std::size_t length;
         spki_guard *opened;
         check_version();
-        require_done(limits.answer > SPKI_MOST_ANSWER ? SPKI_MISUSED : SPKI_DONE);
+        require_done(limits.answer > SPKI_MAX_ANSWER ? SPKI_MISUSED : SPKI_DONE);
         spki_status status = spki_guard_open(list.data(), list.size(), policy, &limits, &opened, line, sizeof line, &length);
         handle.reset(opened);
         require_done(status, line, length);
@@ -267,12 +267,12 @@ public:
     /* Reads a question. Throws `refused` if a part cannot be read or exceeds a limit, or if the library gets no memory. */
     spki::asked ask(const question &question) const
     {
-        char line[line_room];
+        char line[line_capacity];
         std::size_t length;
         spki_asked *opened;
         const spki_question lent = question.lent();
         spki_status status = spki_guard_ask(handle.get(), &lent, &opened, line, sizeof line, &length);
-        spki::asked asked(opened, room);
+        spki::asked asked(opened, capacity);
         require_done(status, line, length);
         return asked;
     }
@@ -292,9 +292,9 @@ private:
     };
     std::unique_ptr<spki_guard, close> handle;
     /* The octets of the longest answer of each question. */
-    std::size_t room;
+    std::size_t capacity;
     /* The octets that each refusal fits in. */
-    static constexpr std::size_t line_room = 128;
+    static constexpr std::size_t line_capacity = 128;
 
     /* Throws std::runtime_error if the library is of another version, which may have other structures. */
     static void check_version()

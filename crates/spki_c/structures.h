@@ -4,15 +4,15 @@
 #include <string.h>
 
 /* The most octets of a structure: a larger size was never set, or is that of something else. */
-enum { MOST_SIZE = 4096 };
+enum { MAX_SIZE = 4096 };
 
 /* Copies a caller's structure, whose first field states its size, to one of `size` octets. Fields that the caller's lacks are 0. Those that this
  * library does not know must be 0. `least` is the size in version 0.2.0. False, and `to` unchanged, if the structure is null, a field that is not
- * known is not 0, or the stated size is less than `least`, more than MOST_SIZE, or no multiple of that of a size_t. */
+ * known is not 0, or the stated size is less than `least`, more than MAX_SIZE, or no multiple of that of a size_t. */
 static bool copy_structure(void *to, size_t size, size_t least, const void *from)
 {
     const size_t stated = from ? *(const size_t *)from : 0;
-    bool is_fit = stated >= least && stated <= MOST_SIZE && stated % sizeof stated == 0;
+    bool is_fit = stated >= least && stated <= MAX_SIZE && stated % sizeof stated == 0;
     for (size_t at = size; is_fit && at < stated; at++)
         is_fit = !((const unsigned char *)from)[at];
     if (is_fit)

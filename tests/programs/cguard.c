@@ -216,7 +216,7 @@ static void requests_by_strings(void)
     expect(spki_guard_ask(guard, &question, &asked, buffer, sizeof buffer, &needed) == SPKI_REFUSED && !asked
            && needed > 16 && !memcmp(buffer, "refused request ", 16), "a request of no string");
     question.word_count = 3;
-    words[1].length = SPKI_MOST_OCTETS + 1;
+    words[1].length = SPKI_MAX_OCTETS + 1;
     words[2] = text("read");
     expect_decision(guard, &question, 0, SPKI_REFUSED, "refused question TooLong\n");
     words[1] = text("/cache/team1/a.o");

@@ -124,10 +124,10 @@ static void wrong_sizes(void)
     static const size_t sizes[] = {0, sizeof question - 1, sizeof question + 1, SIZE_MAX};
     limits[0].size = 0;
     limits[1].size++;
-    limits[2].octets = SPKI_MOST_OCTETS + 1;
-    limits[3].nodes = SPKI_MOST_NODES + 1;
+    limits[2].octets = SPKI_MAX_OCTETS + 1;
+    limits[3].nodes = SPKI_MAX_NODES + 1;
     limits[4].octets = SIZE_MAX;
-    limits[5].work = SPKI_MOST_WORK + 1;
+    limits[5].work = SPKI_MAX_WORK + 1;
     for (size_t place = 0; place < sizeof limits / sizeof *limits; place++)
         expect_no_guard(spki_guard_open("(acl)", 5, SPKI_STRICT, &limits[place], &no_guard, BUFFER), "spki_guard_open: limits");
     for (size_t place = 0; place < sizeof sizes / sizeof *sizes; place++) {

@@ -250,9 +250,9 @@ class Words(unittest.TestCase):
     def test_highest_limits(self):
         """The bindings in Rust and Python have the numbers of the header for the highest limits and the usual answer. Of the usual limits, 65,536 and
         2,000,000, no binding has a copy. Tests, examples and code for HTTP are not searched: these numbers may be limits of their own there."""
-        header = dict(re.findall(r"^#define SPKI_((?:MOST_|USUAL_ANSWER)\w*) (\d+)$", text_of("crates/spki_c/spki.h"), re.MULTILINE))
-        for path, line in (("bindings/rust/spki-sys/src/lib.rs", r"^pub const (MOST_\w+|USUAL_\w+): usize = ([\d_]+);$"),
-                           ("bindings/python/spki/_library.py", r"^(MOST_\w+|USUAL_\w+) = ([\d_]+)$")):
+        header = dict(re.findall(r"^#define SPKI_((?:MAX_|USUAL_ANSWER)\w*) (\d+)$", text_of("crates/spki_c/spki.h"), re.MULTILINE))
+        for path, line in (("bindings/rust/spki-sys/src/lib.rs", r"^pub const (MAX_\w+|USUAL_\w+): usize = ([\d_]+);$"),
+                           ("bindings/python/spki/_library.py", r"^(MAX_\w+|USUAL_\w+) = ([\d_]+)$")):
             numbers = re.findall(line, text_of(path), re.MULTILINE)
             self.assertEqual({name: number.replace("_", "") for name, number in numbers}, header, path)
         for path in glob.glob("bindings/**/*", root_dir=TOP, recursive=True):

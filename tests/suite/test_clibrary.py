@@ -456,7 +456,7 @@ class Structures(unittest.TestCase):
     present one, or a later one, whose structures have one more field."""
 
     # The changes that make the later header: a number more in two initializers, and a field more in two structures.
-    LATER = (("0, 0, 0, 0, 0, 0}", "0, 0, 0, 0, 0, 0, 0}"), (", SPKI_MOST_ANSWER}", ", SPKI_MOST_ANSWER, 0}"),
+    LATER = (("0, 0, 0, 0, 0, 0}", "0, 0, 0, 0, 0, 0, 0}"), (", SPKI_MAX_ANSWER}", ", SPKI_MAX_ANSWER, 0}"),
              ("the most octets of the answer */\n", "the most octets of the answer */\n    size_t later;\n"),
              ("past the year 9999 */\n};", "past the year 9999 */\n    const void *later;\n};"))
 

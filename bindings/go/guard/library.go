@@ -35,10 +35,10 @@ const (
 
 // The most that limits may set, and the usual limit of an answer.
 const (
-	mostOctets  = C.SPKI_MOST_OCTETS
-	mostNodes   = C.SPKI_MOST_NODES
-	mostWork    = C.SPKI_MOST_WORK
-	mostAnswer  = C.SPKI_MOST_ANSWER
+	mostOctets  = C.SPKI_MAX_OCTETS
+	mostNodes   = C.SPKI_MAX_NODES
+	mostWork    = C.SPKI_MAX_WORK
+	mostAnswer  = C.SPKI_MAX_ANSWER
 	usualAnswer = C.SPKI_USUAL_ANSWER
 	// The octets that each decision and each refusal fits in.
 	roomForLine = C.LIBRARY_LINE

@@ -351,7 +351,7 @@ def _convert(command: int, text: bytes) -> bytes:
     # No form of a long text has more than three times the octets of another: an octet that is printed in base64 takes 7
     # for the 3 of its canonical text, and `a(b)`, again and again, takes 8 for 3 in transport form. For a short text
     # `_call_for_answer` has more room. A text over the limit is refused, so the room is bounded.
-    room = 3 * min(len(text), _library.MOST_OCTETS)
+    room = 3 * min(len(text), _library.MAX_OCTETS)
     status, answer = _call_for_answer(room, library.spki_answer, command, text, len(text))
     _raise_unless_done(status, answer)
     return answer

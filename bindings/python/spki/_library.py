@@ -12,10 +12,10 @@ from typing import Protocol, cast
 NO, REFUSED, TOO_SMALL, DONE, NO_MEMORY, YES = 1, 2, 4, 6, 8, 9
 CANONICAL, ADVANCED, TRANSPORT = 0, 1, 2
 # The most that limits may set, and the usual limit of an answer. HIGHEST is for the other limits: the highest `size_t`.
-MOST_OCTETS = 1_048_576
-MOST_NODES = 1_000_000
-MOST_WORK = 1_000_000_000
-MOST_ANSWER = 268_435_456
+MAX_OCTETS = 1_048_576
+MAX_NODES = 1_000_000
+MAX_WORK = 1_000_000_000
+MAX_ANSWER = 268_435_456
 USUAL_ANSWER = 1_048_576
 HIGHEST = c_size_t(-1).value
 # The first two numbers of the version of a library that this module can call.

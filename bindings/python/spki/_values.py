@@ -78,8 +78,8 @@ class Limits:
 
     def __post_init__(self) -> None:
         """Raises `TypeError` for a limit that is no `int` or is a `bool`, and `ValueError` for one below 0 or over the highest."""
-        most_by_name = {"octets": _library.MOST_OCTETS, "nodes": _library.MOST_NODES, "work": _library.MOST_WORK,
-                        "answer": _library.MOST_ANSWER}
+        most_by_name = {"octets": _library.MAX_OCTETS, "nodes": _library.MAX_NODES, "work": _library.MAX_WORK,
+                        "answer": _library.MAX_ANSWER}
         for field in fields(self):
             most = most_by_name.get(field.name, _library.HIGHEST)
             if not 0 <= int_of(getattr(self, field.name)) <= most:
@@ -89,8 +89,8 @@ class Limits:
     def highest(cls) -> Limits:
         """The highest limits. They are not for questions of strangers: on some within them an explanation takes
         seconds."""
-        return cls(octets=_library.MOST_OCTETS, certificates=_library.HIGHEST, words=_library.HIGHEST,
-                   nodes=_library.MOST_NODES, work=_library.MOST_WORK, answer=_library.MOST_ANSWER)
+        return cls(octets=_library.MAX_OCTETS, certificates=_library.HIGHEST, words=_library.HIGHEST,
+                   nodes=_library.MAX_NODES, work=_library.MAX_WORK, answer=_library.MAX_ANSWER)
 
 
 class Scheme(enum.Enum):

@@ -90,7 +90,7 @@ impl Limits {
     /// The most octets that the texts of a question may have together. A number above the library's highest sets the highest.
     #[must_use]
     pub const fn octets(mut self, most: usize) -> Limits {
-        self.values.octets = at_most(most, sys::MOST_OCTETS);
+        self.values.octets = at_most(most, sys::MAX_OCTETS);
         self
     }
 
@@ -112,7 +112,7 @@ impl Limits {
     /// above the library's highest sets the highest.
     #[must_use]
     pub const fn nodes(mut self, most: usize) -> Limits {
-        self.values.nodes = at_most(most, sys::MOST_NODES);
+        self.values.nodes = at_most(most, sys::MAX_NODES);
         self
     }
 
@@ -120,7 +120,7 @@ impl Limits {
     /// library's highest sets the highest.
     #[must_use]
     pub const fn work(mut self, most: usize) -> Limits {
-        self.values.work = at_most(most, sys::MOST_WORK);
+        self.values.work = at_most(most, sys::MAX_WORK);
         self
     }
 
@@ -128,7 +128,7 @@ impl Limits {
     /// used. A number above 256 MiB sets 256 MiB.
     #[must_use]
     pub const fn answer(mut self, most: usize) -> Limits {
-        self.values.answer = at_most(most, sys::MOST_ANSWER);
+        self.values.answer = at_most(most, sys::MAX_ANSWER);
         self
     }
 }

@@ -111,9 +111,9 @@ fn convert(command: c_int, text: &[u8]) -> Result<Vec<u8>, Refusal> {
     library::check_version();
     // (an answer has at most 3 octets for each of the text. A string of one octet that is printed in base64, `1:\0` as `|AA==|` and a space, grows
     // from 3 octets to 7. In transport form `a(b)`, in canonical form `1:a(1:b)`, grows to 8 thirds of its 4 octets. A text of more than
-    // `MOST_OCTETS` is refused. The other 64 octets are room for braces and a line feed)
+    // `MAX_OCTETS` is refused. The other 64 octets are room for braces and a line feed)
     let (status, answer) = call_for_answer(
-        3 * text.len().min(sys::MOST_OCTETS) + 64,
+        3 * text.len().min(sys::MAX_OCTETS) + 64,
         |buffer, room, needed| {
             // SAFETY: each pointer is to as many octets as its length says, or to one value of its type, and they do not overlap.
             unsafe {

@@ -18,7 +18,7 @@ asks_of m = m.asks
 abbrev pub faults_of : {T : Type 0} → Metered T → ℕ
 faults_of m = m.faults
 
--- whether the last read into a buffer with room returned 0 octets
+-- whether the last read into a buffer with capacity returned 0 octets
 abbrev pub ended_of : {T : Type 0} → Metered T → Bool
 ended_of m = m.ended
 

@@ -16,7 +16,7 @@ pub struct Metered<T> {
     /// How many of these calls failed with an error other than `Interrupted`, or wrote 0 octets of a buffer that is not
     /// empty.
     faults: u64,
-    /// Whether the last read into a buffer with room returned 0 octets.
+    /// Whether the last read into a buffer with capacity returned 0 octets.
     ended: bool,
     /// Whether the last write or flush was a flush that succeeded.
     flushed: bool,
@@ -80,7 +80,7 @@ impl<T> Metered<T> {
         self.faults
     }
 
-    /// Whether the last read into a buffer with room returned 0 octets. False if there was none since `new` or
+    /// Whether the last read into a buffer with capacity returned 0 octets. False if there was none since `new` or
     /// `restart`.
     pub fn ended(&self) -> bool
         ensures { result ≡ ended_of self.now }
@@ -134,7 +134,7 @@ impl<R: Read> Read for Metered<R> {
     ghost remaining = { λ m. R.remaining (inner_of m) };
 
     /// Reads from the reader inside, and returns its answer. Counts the call, and as a fault an error other than
-    /// `Interrupted`. If the buffer has room, `ended` is then true if 0 octets were read, and false for more octets or
+    /// `Interrupted`. If the buffer has capacity, `ended` is then true if 0 octets were read, and false for more octets or
     /// an error. If the buffer is empty, `ended` does not change. `flushed` does not change.
     fn read(&mut self, buf: &mut [u8]) -> io::Result<usize>
         ensures bound { ReadsAtMost result buf.new }
@@ -142,22 +142,22 @@ impl<R: Read> Read for Metered<R> {
         ensures asks { asks_of self.new ≡ counted (asks_of self.old) }
         ensures faults { CountsErrors (faults_of self.old) (faults_of self.new) result }
         ensures ended { 0 < length buf.old → (IsTrue (ended_of self.new) ↔ (result ≡ Ok 0)) }
-        ensures no_room { length buf.old ≡ 0 → ended_of self.new ≡ ended_of self.old }
+        ensures no_capacity { length buf.old ≡ 0 → ended_of self.new ≡ ended_of self.old }
         ensures flushed { flushed_of self.new ≡ flushed_of self.old }
         ensures earlier { earlier_of self.new ≡ earlier_of self.old }
     {
         self.asks = self.asks.saturating_add(1);
-        let has_room = !buf.is_empty();
+        let has_capacity = !buf.is_empty();
         let answer = self.inner.read(buf);
         match &answer {
             Ok(count) => {
-                if has_room {
+                if has_capacity {
                     self.ended = *count == 0;
                 }
             }
             Err(error) => {
                 self.faults = count_error(self.faults, error);
-                if has_room {
+                if has_capacity {
                     self.ended = false;
                 }
             }

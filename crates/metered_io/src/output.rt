@@ -66,30 +66,30 @@ fn flush_once<W: Write>(writer: &mut Metered<W>) -> Result<bool, WriteFault>
 
 /// Writes all the octets, and does not flush. For an output in pieces a caller writes each with this function, and then
 /// calls `flush_writer` once. A call that fails with `Interrupted` is repeated. The writer is called only while its
-/// count of calls, `asks`, is below `most`. This count includes calls before this function. If `octets` is empty, the
+/// count of calls, `asks`, is below `max_asks`. This count includes calls before this function. If `octets` is empty, the
 /// writer is not called.
 ///
 /// # Errors
 ///
 /// `WriteFault` at another error of the writer, if it writes 0 octets of a buffer that is not empty, and if octets are
-/// left when the count is `most` or more. A beginning of the octets has been written then, which may be empty, but not all of them.
+/// left when the count is `max_asks` or more. A beginning of the octets has been written then, which may be empty, but not all of them.
 pub fn write_octets<W: Write>(
     writer: &mut Metered<W>,
     octets: &[u8],
-    most: u64,
+    max_asks: u64,
 ) -> Result<(), WriteFault>
     ensures octets { OnOk result (Takes W.contents writer.old writer.new octets.now) }
     ensures front { OnErr result ((rest : List ℕ) × (0 < length rest)
         × SendsFront W.contents writer.old writer.new octets.now rest) }
     ensures unflushed { flushed_of writer.old ≡ false → flushed_of writer.new ≡ false }
-    ensures asks { asks_of writer.new ≤ max (asks_of writer.old) most }
+    ensures asks { asks_of writer.new ≤ max (asks_of writer.old) max_asks }
     ensures earlier { earlier_of writer.new ≡ earlier_of writer.old }
-    ensures fault { OnErr result ((faults_of writer.new ≡ counted (faults_of writer.old)) ⊎ (most ≤ asks_of writer.new)) }
+    ensures fault { OnErr result ((faults_of writer.new ≡ counted (faults_of writer.old)) ⊎ (max_asks ≤ asks_of writer.new)) }
     ensures no_fault { OnOk result (faults_of writer.new ≡ faults_of writer.old) }
 {
     let mut rest = octets;
     while !rest.is_empty() {
-        if writer.asks() >= most {
+        if writer.asks() >= max_asks {
             return Err(WriteFault);
         }
         let count = write_piece(writer, rest)?;
@@ -99,22 +99,22 @@ pub fn write_octets<W: Write>(
 }
 
 /// Flushes the writer. A flush that fails with `Interrupted` is repeated. The writer is called only while its count of
-/// calls, `asks`, is below `most`. This count includes calls before this function.
+/// calls, `asks`, is below `max_asks`. This count includes calls before this function.
 ///
 /// # Errors
 ///
-/// `WriteFault` at another error of the writer, and if no flush has succeeded when the count is `most` or more.
-pub fn flush_writer<W: Write>(writer: &mut Metered<W>, most: u64) -> Result<(), WriteFault>
+/// `WriteFault` at another error of the writer, and if no flush has succeeded when the count is `max_asks` or more.
+pub fn flush_writer<W: Write>(writer: &mut Metered<W>, max_asks: u64) -> Result<(), WriteFault>
     ensures octets { TakesNone W.contents writer.old writer.new }
     ensures flushed { OnOk result (IsTrue (flushed_of writer.new)) }
     // It is an error only if no flush succeeded.
     ensures unflushed { OnErr result (flushed_of writer.old ≡ false → flushed_of writer.new ≡ false) }
-    ensures asks { asks_of writer.new ≤ max (asks_of writer.old) most }
+    ensures asks { asks_of writer.new ≤ max (asks_of writer.old) max_asks }
     ensures earlier { earlier_of writer.new ≡ earlier_of writer.old }
-    ensures fault { OnErr result ((faults_of writer.new ≡ counted (faults_of writer.old)) ⊎ (most ≤ asks_of writer.new)) }
+    ensures fault { OnErr result ((faults_of writer.new ≡ counted (faults_of writer.old)) ⊎ (max_asks ≤ asks_of writer.new)) }
     ensures no_fault { OnOk result (faults_of writer.new ≡ faults_of writer.old) }
 {
-    while writer.asks() < most {
+    while writer.asks() < max_asks {
         if flush_once(writer)? {
             return Ok(());
         }
@@ -142,7 +142,7 @@ pub fn write_whole<W: Write>(writer: &mut Metered<W>, octets: &[u8]) -> Result<(
         ⊎ (length octets.now + 2097152 ≤ asks_of writer.new)) }
     ensures no_fault { OnOk result (faults_of writer.new ≡ faults_of writer.old) }
 {
-    let most = octets.len() as u64 + WRITER_ASKS;
-    write_octets(writer, octets, most)?;
-    flush_writer(writer, most)
+    let max_asks = octets.len() as u64 + WRITER_ASKS;
+    write_octets(writer, octets, max_asks)?;
+    flush_writer(writer, max_asks)
 }

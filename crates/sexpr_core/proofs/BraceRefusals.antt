@@ -79,9 +79,9 @@ deep_stops text d (inr o) = not_open d.before d.body d.after 125 text d.spaces_b
 -- ---- the closing brace of octets that are TooDeep
 
 record Closes (text : List ℕ) : Type 0 where
-  place : ℕ
-  before_is : OpensBraces (take place text)
-  behind_is : (n : ℕ) → place < n → BracesDeep (take n text)
+  offset : ℕ
+  before_is : OpensBraces (take offset text)
+  behind_is : (n : ℕ) → offset < n → BracesDeep (take n text)
 
 closes : (text : List ℕ) → BracesDeep text → Closes text
 closes text d =
@@ -91,7 +91,7 @@ closes text d =
     let more : text ≡ shut ++ d.after = all ∙ sym (append_assoc front (125 ∷ []) d.after) in
     let upto : take (length front) text ≡ front = ap (take (length front)) all ∙ take_at front (125 ∷ d.after) (length front) refl in
     record {
-      place = length front;
+      offset = length front;
       before_is = search (rules, upto, body_octets d.body d.octets d.packed);
       behind_is = λ n h.
           let past : n ≡ length shut + (n - length shut) = omega (arith, length-append front (125 ∷ [])) in
@@ -106,10 +106,10 @@ abbrev pub Stops : List ℕ → ℕ → Type 0
 Stops text at = StopsThere BracesGoOn BracesGoOn text at
 
 -- it is the closing brace of octets that are TooDeep
-at_close : (text : List ℕ) (at : ℕ) (c : Closes text) → Stops text at → at ≡ c.place
-at_close text at c s = elim (cases_order at c.place) [
+at_close : (text : List ℕ) (at : ℕ) (c : Closes text) → Stops text at → at ≡ c.offset
+at_close text at c s = elim (cases_order at c.offset) [
   | inl e ↦ e
-  | inr (inl h) ↦ absurd (s.ended (goes_less BracesGoOn goes_before (at + 1) c.place text (omega arith) (inr c.before_is)))
+  | inr (inl h) ↦ absurd (s.ended (goes_less BracesGoOn goes_before (at + 1) c.offset text (omega arith) (inr c.before_is)))
   | inr (inr h) ↦ absurd (deep_stops (take at text) (c.behind_is at h) s.begun)
 ]
 
@@ -134,7 +134,7 @@ bad_deep text at r d = search (rules, closes text d, at_close text at (closes te
 trailing_deep : (text : List ℕ) (at : ℕ) → RefusesBraces text (Trailing at) → BracesDeep text → ⊥
 trailing_deep text at r d =
     let c = closes text d in
-    let e : at ≡ c.place = at_close text at c (stops_trailing text at r) in
+    let e : at ≡ c.offset = at_close text at c (stops_trailing text at r) in
     let o : OpensBraces (take at text) = subst (λ n. OpensBraces (take n text)) (sym e) c.before_is in
     not_closed o.before o.body (take at text) r.1.0 o.spaces_before o.symbols o.parts r.1.1.braced
 
@@ -203,7 +203,7 @@ stopped_at : (text : List ℕ) (begin k c : ℕ) (s : Skips text 0 begin) → St
     → take (k + 1) text ≡ s.spaces ++ 123 ∷ (p.body ++ c ∷ [])
 stopped_at text begin k c s o p d = search (rules, one_more, front_at, append_assoc)
 
--- base64 of a body is at its place if the closing brace follows
+-- base64 of a body is where it must be if the closing brace follows
 packed_there : (text other body : List ℕ) (begin : ℕ) (octets : List ℕ) (s : Skips text 0 begin) → IsBase64 (visible body) octets → other ≡ s.spaces ++ 123 ∷ (body ++ 125 ∷ [])
     → Begins (PackedAt (begin + 1) 125) other
 packed_there text other body begin octets s packed e =

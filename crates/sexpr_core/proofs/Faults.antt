@@ -47,7 +47,7 @@ length_stop at n c xs ys e never =
     ∙ ap (λ k. take k (decimal n ++ c ∷ ys)) (sym (add-one (length (decimal n))))
     ∙ take-append-add (decimal n) (c ∷ ys) 1 in
     record {
-      place = length (decimal n);
+      index = length (decimal n);
       offset = refl;
       within = omega (arith, ap length e, length-append (decimal n) (c ∷ ys));
       before = subst (λ s. Front IsLength s) (sym before)
@@ -91,7 +91,7 @@ verbatim_there at octets xs behind Short e h =
     sym (append_assoc (verbatim octets) behind h.rest) ∙ ap (λ t. t ++ h.rest) (sym e) ∙ h.whole.is ∙ sym (append-nil (verbatim h.whole.octets)) in
     omega (arith, h.some, ap length (verbatim_one octets h.whole.octets (behind ++ h.rest) [] whole).1, length-append behind h.rest)
 verbatim_there at octets xs behind (Bad k) e h =
-    h.stops.bars (verbatim octets) (drop (suc h.place) xs) behind (record { octets = octets; is = refl }) (take-append-drop (suc h.place) xs ∙ e)
+    h.stops.bars (verbatim octets) (drop (suc h.index) xs) behind (record { octets = octets; is = refl }) (take-append-drop (suc h.index) xs ∙ e)
 verbatim_there at octets xs behind _ e h = h
 
 pub verbatim_short :
@@ -144,9 +144,9 @@ hinted_fault at to hint xs ys e q p h =
 
 -- ---- a value
 
-pub value_ended : (room : ℕ) (xs : List ℕ) → xs ≡ [] → Front (IsCanonWithin room) xs
-value_ended room xs e =
-    Front-none (IsCanonWithin room) (verbatim []) xs e (verbatim_none []) (record { value = string None []; fits = omega arith; is = refl })
+pub value_ended : (max_depth : ℕ) (xs : List ℕ) → xs ≡ [] → Front (IsCanonWithin max_depth) xs
+value_ended max_depth xs e =
+    Front-none (IsCanonWithin max_depth) (verbatim []) xs e (verbatim_none []) (record { value = string None []; fits = omega arith; is = refl })
 
 value_never :
     (v : Value) (c : ℕ) (x y : List ℕ) → (IsDigit c → ⊥) → (c ≡ 91 → ⊥) → (c ≡ 40 → ⊥) → c ∷ x ≡ canon v ++ y →
@@ -156,56 +156,56 @@ value_never (string (Some h) a) c x y nd nb np e = nb cc
 value_never (list vs) c x y nd nb np e = np cc
 
 pub value_first :
-    (room at c : ℕ) (xs ys : List ℕ) → xs ≡ c ∷ ys → (IsDigit c → ⊥) → (c ≡ 91 → ⊥) → (c ≡ 40 → ⊥) →
-    FaultAt IsCanon (IsCanonWithin room) at xs (Bad at)
-value_first room at c xs ys q nd nb np = search (rules, FaultAt-first, value_ended, value_never)
+    (max_depth at c : ℕ) (xs ys : List ℕ) → xs ≡ c ∷ ys → (IsDigit c → ⊥) → (c ≡ 91 → ⊥) → (c ≡ 40 → ⊥) →
+    FaultAt IsCanon (IsCanonWithin max_depth) at xs (Bad at)
+value_first max_depth at c xs ys q nd nb np = search (rules, FaultAt-first, value_ended, value_never)
 
 pub plain_fault :
-    (room at c : ℕ) (xs ys : List ℕ) (e : FormFault) → xs ≡ c ∷ ys → IsDigit c → MissesAt IsVerbatim at xs e →
-    FaultAt IsCanon (IsCanonWithin room) at xs e
-plain_fault room at c xs ys e q low h =
-    FaultAt-from IsCanon IsVerbatim (IsCanonWithin room) IsVerbatim at c xs ys e q (From-digit c low) (From-digit_within room c low) (missed IsVerbatim at xs e h)
+    (max_depth at c : ℕ) (xs ys : List ℕ) (e : FormFault) → xs ≡ c ∷ ys → IsDigit c → MissesAt IsVerbatim at xs e →
+    FaultAt IsCanon (IsCanonWithin max_depth) at xs e
+plain_fault max_depth at c xs ys e q low h =
+    FaultAt-from IsCanon IsVerbatim (IsCanonWithin max_depth) IsVerbatim at c xs ys e q (From-digit c low) (From-digit_within max_depth c low) (missed IsVerbatim at xs e h)
 
 pub bracket_fault :
-    (room at : ℕ) (xs ys : List ℕ) (e : FormFault) → xs ≡ 91 ∷ ys → FaultAt IsHinted IsHinted (at + 1) ys e →
-    FaultAt IsCanon (IsCanonWithin room) at xs e
-bracket_fault room at xs ys e q h = search (rules, FaultAt-tail, Behind-bracket, Behind-bracket_within)
+    (max_depth at : ℕ) (xs ys : List ℕ) (e : FormFault) → xs ≡ 91 ∷ ys → FaultAt IsHinted IsHinted (at + 1) ys e →
+    FaultAt IsCanon (IsCanonWithin max_depth) at xs e
+bracket_fault max_depth at xs ys e q h = search (rules, FaultAt-tail, Behind-bracket, Behind-bracket_within)
 
-pub list_deep : (room : ℕ) (xs ys : List ℕ) → room ≡ 0 → xs ≡ 40 ∷ ys → IsDeep IsCanon (IsCanonWithin room) xs
-list_deep room xs ys z q =
+pub list_deep : (max_depth : ℕ) (xs ys : List ℕ) → max_depth ≡ 0 → xs ≡ 40 ∷ ys → IsDeep IsCanon (IsCanonWithin max_depth) xs
+list_deep max_depth xs ys z q =
     let h : IsDeep IsCanon (IsCanonWithin 0) (40 ∷ ys) = record {
-      place = 0;
+      index = 0;
       within = omega arith;
       before = record { rest = 41 ∷ []; some = omega arith; whole = record { value = list none; is = refl } };
       stops = record { bars = λ t rest after is e. closed_within t rest after is e };
     } in
-    subst (λ s. IsDeep IsCanon (IsCanonWithin room) s) (sym q) (subst (λ r. IsDeep IsCanon (IsCanonWithin r) (40 ∷ ys)) (sym z) h)
+    subst (λ s. IsDeep IsCanon (IsCanonWithin max_depth) s) (sym q) (subst (λ r. IsDeep IsCanon (IsCanonWithin r) (40 ∷ ys)) (sym z) h)
 
 pub list_fault :
-    (room inner at : ℕ) (xs ys : List ℕ) (e : FormFault) → room ≡ suc inner → xs ≡ 40 ∷ ys →
-    FaultAt IsMembers (IsMembersWithin inner) (at + 1) ys e → FaultAt IsCanon (IsCanonWithin room) at xs e
-list_fault room inner at xs ys e z q h =
+    (max_depth inner at : ℕ) (xs ys : List ℕ) (e : FormFault) → max_depth ≡ suc inner → xs ≡ 40 ∷ ys →
+    FaultAt IsMembers (IsMembersWithin inner) (at + 1) ys e → FaultAt IsCanon (IsCanonWithin max_depth) at xs e
+list_fault max_depth inner at xs ys e z q h =
     subst (λ r. FaultAt IsCanon (IsCanonWithin r) at xs e) (sym z)
     (FaultAt-tail IsCanon IsMembers (IsCanonWithin (suc inner)) (IsMembersWithin inner) at (at + 1) (40 ∷ []) xs ys e q refl Behind-open (Behind-open_within inner) h)
 
 -- ---- members
 
 behind_members :
-    (room at to : ℕ) (vs : Values) (xs ys : List ℕ) (e : FormFault) → depths vs ≤ room → xs ≡ canons vs ++ ys →
-    to ≡ at + length (canons vs) → FaultAt IsMembers (IsMembersWithin room) to ys e →
-    FaultAt IsMembers (IsMembersWithin room) at xs e
-behind_members room at to vs xs ys e fits q p h = search (rules, FaultAt-tail, Behind-members, Behind-members_within)
+    (max_depth at to : ℕ) (vs : Values) (xs ys : List ℕ) (e : FormFault) → depths vs ≤ max_depth → xs ≡ canons vs ++ ys →
+    to ≡ at + length (canons vs) → FaultAt IsMembers (IsMembersWithin max_depth) to ys e →
+    FaultAt IsMembers (IsMembersWithin max_depth) at xs e
+behind_members max_depth at to vs xs ys e fits q p h = search (rules, FaultAt-tail, Behind-members, Behind-members_within)
 
 pub members_short :
-    (room at : ℕ) (vs : Values) (xs : List ℕ) → depths vs ≤ room → xs ≡ canons vs ++ [] →
-    FaultAt IsMembers (IsMembersWithin room) at xs Short
-members_short room at vs xs fits q = behind_members room at (at + length (canons vs)) vs xs [] Short fits q refl
-    (Front-none (IsMembersWithin room) (41 ∷ []) [] refl (omega arith) (record { items = none; fits = omega arith; is = refl }))
+    (max_depth at : ℕ) (vs : Values) (xs : List ℕ) → depths vs ≤ max_depth → xs ≡ canons vs ++ [] →
+    FaultAt IsMembers (IsMembersWithin max_depth) at xs Short
+members_short max_depth at vs xs fits q = behind_members max_depth at (at + length (canons vs)) vs xs [] Short fits q refl
+    (Front-none (IsMembersWithin max_depth) (41 ∷ []) [] refl (omega arith) (record { items = none; fits = omega arith; is = refl }))
 
 pub member_fault :
-    (room at to c : ℕ) (vs : Values) (xs ys : List ℕ) (e : FormFault) → depths vs ≤ room →
+    (max_depth at to c : ℕ) (vs : Values) (xs ys : List ℕ) (e : FormFault) → depths vs ≤ max_depth →
     xs ≡ canons vs ++ c ∷ ys → to ≡ at + length (canons vs) → (c ≡ 41 → ⊥) →
-    FaultAt IsCanon (IsCanonWithin room) to (c ∷ ys) e → FaultAt IsMembers (IsMembersWithin room) at xs e
-member_fault room at to c vs xs ys e fits q p nc h = behind_members room at to vs xs (c ∷ ys) e fits q p
-    (FaultAt-from IsMembers IsFilled (IsMembersWithin room) (IsFilledWithin room) to c (c ∷ ys) ys e refl (From-filled c nc) (From-filled_within room c nc)
-    (FaultAt-head IsFilled IsCanon (IsFilledWithin room) (IsCanonWithin room) to (c ∷ ys) e Opens-filled (Opens-filled_within room) h))
+    FaultAt IsCanon (IsCanonWithin max_depth) to (c ∷ ys) e → FaultAt IsMembers (IsMembersWithin max_depth) at xs e
+member_fault max_depth at to c vs xs ys e fits q p nc h = behind_members max_depth at to vs xs (c ∷ ys) e fits q p
+    (FaultAt-from IsMembers IsFilled (IsMembersWithin max_depth) (IsFilledWithin max_depth) to c (c ∷ ys) ys e refl (From-filled c nc) (From-filled_within max_depth c nc)
+    (FaultAt-head IsFilled IsCanon (IsFilledWithin max_depth) (IsCanonWithin max_depth) to (c ∷ ys) e Opens-filled (Opens-filled_within max_depth) h))

@@ -15,14 +15,14 @@ pub canons-join : (vs ws : Values) → canons (join vs ws) ≡ canons vs ++ cano
 canons-join none ws = refl
 canons-join (more v vs) ws = ap (λ t. canon v ++ t) (canons-join vs ws) ∙ sym (append_assoc (canon v) (canons vs) (canons ws))
 
-pub depths-join : (room : ℕ) (vs ws : Values) → depths vs ≤ room → depths ws ≤ room → depths (join vs ws) ≤ room
-depths-join room none ws h k = k
-depths-join room (more v vs) ws h k = let a : depths vs ≤ room = omega arith in omega (arith, depths-join room vs ws a k)
+pub depths-join : (max_depth : ℕ) (vs ws : Values) → depths vs ≤ max_depth → depths ws ≤ max_depth → depths (join vs ws) ≤ max_depth
+depths-join max_depth none ws h k = k
+depths-join max_depth (more v vs) ws h k = let a : depths vs ≤ max_depth = omega arith in omega (arith, depths-join max_depth vs ws a k)
 
-depths_rest : (room : ℕ) (vs ws : Values) → depths (join vs ws) ≤ room → depths ws ≤ room
-depths_rest room none ws h = h
-depths_rest room (more v vs) ws h =
-    let a : depths (join vs ws) ≤ room = omega arith in depths_rest room vs ws a
+depths_rest : (max_depth : ℕ) (vs ws : Values) → depths (join vs ws) ≤ max_depth → depths ws ≤ max_depth
+depths_rest max_depth none ws h = h
+depths_rest max_depth (more v vs) ws h =
+    let a : depths (join vs ws) ≤ max_depth = omega arith in depths_rest max_depth vs ws a
 
 record Rest (vs ws : Values) : Type 0 where
   rest : Values
@@ -58,13 +58,13 @@ Behind-members vs = record {
 }
 
 pub Behind-members_within :
-    (room : ℕ) (vs : Values) → depths vs ≤ room →
-    Behind (IsMembersWithin room) (IsMembersWithin room) (canons vs)
-Behind-members_within room vs h = record {
-  on = λ b is. record { items = join vs is.items; fits = depths-join room vs is.items h is.fits; is = members_on vs is.items b is.is };
+    (max_depth : ℕ) (vs : Values) → depths vs ≤ max_depth →
+    Behind (IsMembersWithin max_depth) (IsMembersWithin max_depth) (canons vs)
+Behind-members_within max_depth vs h = record {
+  on = λ b is. record { items = join vs is.items; fits = depths-join max_depth vs is.items h is.fits; is = members_on vs is.items b is.is };
   back = λ t x y is e.
       let r = members_rest vs is.items t x y is.is e in
-      let fits = depths_rest room vs r.rest (subst (λ k. depths k ≤ room) r.is is.fits) in
+      let fits = depths_rest max_depth vs r.rest (subst (λ k. depths k ≤ max_depth) r.is is.fits) in
       search (rules, fits, members_whole vs is.items r.rest t is.is r.is);
 }
 
@@ -80,12 +80,12 @@ Behind-open = record {
   back = λ t x y is e. let p = list_back is.value t x y is.is e in search (rules, is.is ∙ ap canon p.1);
 }
 
-pub Behind-open_within : (room : ℕ) → Behind (IsCanonWithin (suc room)) (IsMembersWithin room) (40 ∷ [])
-Behind-open_within room = record {
-  on = λ b is. record { value = list is.items; fits = let h : depths is.items ≤ room = is.fits in omega arith; is = ap (λ t. 40 ∷ t) is.is };
+pub Behind-open_within : (max_depth : ℕ) → Behind (IsCanonWithin (suc max_depth)) (IsMembersWithin max_depth) (40 ∷ [])
+Behind-open_within max_depth = record {
+  on = λ b is. record { value = list is.items; fits = let h : depths is.items ≤ max_depth = is.fits in omega arith; is = ap (λ t. 40 ∷ t) is.is };
   back = λ t x y is e.
       let p = list_back is.value t x y is.is e in
-      let h : suc (depths p.0) ≤ suc room = subst (λ k. depth k ≤ suc room) p.1 is.fits in
+      let h : suc (depths p.0) ≤ suc max_depth = subst (λ k. depth k ≤ suc max_depth) p.1 is.fits in
       search (rules, arith, is.is ∙ ap canon p.1);
 }
 
@@ -109,12 +109,12 @@ From-filled c h = record {
       record { first = p.0; others = p.1; is = is.is ∙ ap (λ k. canons k ++ 41 ∷ []) p.2 };
 }
 
-pub From-filled_within : (room c : ℕ) → (c ≡ 41 → ⊥) → From c (IsMembersWithin room) (IsFilledWithin room)
-From-filled_within room c h = record {
+pub From-filled_within : (max_depth c : ℕ) → (c ≡ 41 → ⊥) → From c (IsMembersWithin max_depth) (IsFilledWithin max_depth)
+From-filled_within max_depth c h = record {
   on = λ t is. record { items = more is.first is.others; fits = is.fits; is = is.is };
   back = λ t x y is e.
       let p = filled_back is.items t x y c h is.is e in
-      search (rules, subst (λ k. depths k ≤ room) p.2 is.fits, is.is ∙ ap (λ k. canons k ++ 41 ∷ []) p.2);
+      search (rules, subst (λ k. depths k ≤ max_depth) p.2 is.fits, is.is ∙ ap (λ k. canons k ++ 41 ∷ []) p.2);
 }
 
 one_member : (v : Value) (a : List ℕ) → a ≡ canon v → a ++ 41 ∷ [] ≡ canons (more v none) ++ 41 ∷ []
@@ -131,13 +131,13 @@ Opens-filled = record {
   back = λ t is. search (rules, first_member is.first is.others t is.is);
 }
 
-pub Opens-filled_within : (room : ℕ) → Opens (IsFilledWithin room) (IsCanonWithin room)
-Opens-filled_within room = record {
+pub Opens-filled_within : (max_depth : ℕ) → Opens (IsFilledWithin max_depth) (IsCanonWithin max_depth)
+Opens-filled_within max_depth = record {
   on = λ a is. record {
     rest = 41 ∷ [];
-    whole = record { first = is.value; others = none; fits = let h : depth is.value ≤ room = is.fits in omega arith; is = one_member is.value a is.is };
+    whole = record { first = is.value; others = none; fits = let h : depth is.value ≤ max_depth = is.fits in omega arith; is = one_member is.value a is.is };
   };
   back = λ t is.
-      let h : max (depth is.first) (depths is.others) ≤ room = is.fits in
+      let h : max (depth is.first) (depths is.others) ≤ max_depth = is.fits in
       search (rules, arith, first_member is.first is.others t is.is);
 }

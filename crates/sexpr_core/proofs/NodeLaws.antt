@@ -44,10 +44,10 @@ mutual
         | inr above ↦ part_right (nodes v) (nodes_all vs) n d above (part_all vs (n - size v) d (omega (arith, length-append (nodes v) (nodes_all vs))))
       ]
 
-pub length-siblings-le : (most : ℕ) (row : List Value) → length (siblings most row) ≤ most
+pub length-siblings-le : (max_count : ℕ) (row : List Value) → length (siblings max_count row) ≤ max_count
 length-siblings-le zero row = omega arith
-length-siblings-le (suc most) [] = omega arith
-length-siblings-le (suc most) (v ∷ row) = omega (arith, length-siblings-le most (drop (size v - 1) row))
+length-siblings-le (suc max_count) [] = omega arith
+length-siblings-le (suc max_count) (v ∷ row) = omega (arith, length-siblings-le max_count (drop (size v - 1) row))
 
 -- `siblings_between` returns the siblings that the nodes describe
 siblings_are : (v : Value) (from to : ℕ) (vs : List Value) → AreSiblings v from to vs → siblings_between v from to ≡ vs

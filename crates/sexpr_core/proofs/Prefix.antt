@@ -69,18 +69,18 @@ fault_tail :
     (T U S V : List ℕ → Type 0) (at : ℕ) (a ys : List ℕ) (e : FormFault) → Behind T U a → Behind S V a →
     FaultAt U V (at + length a) ys e → FaultAt T S at (a ++ ys) e
 fault_tail T U S V at a ys TooDeep o p h = record {
-  place = length a + h.place;
-  within = let w : h.place < length ys = h.within in omega (arith, length-append a ys);
-  before = subst (λ s. Front T s) (sym (more_taken a ys h.place)) (Front-tail T U a (take (suc h.place) ys) o h.before);
-  stops = subst (λ s. Barred S s) (sym (more_taken a ys h.place)) (Barred-tail S V a (take (suc h.place) ys) p h.stops);
+  index = length a + h.index;
+  within = let w : h.index < length ys = h.within in omega (arith, length-append a ys);
+  before = subst (λ s. Front T s) (sym (more_taken a ys h.index)) (Front-tail T U a (take (suc h.index) ys) o h.before);
+  stops = subst (λ s. Barred S s) (sym (more_taken a ys h.index)) (Barred-tail S V a (take (suc h.index) ys) p h.stops);
 }
 fault_tail T U S V at a ys Short o p h = Front-tail S V a ys p h
 fault_tail T U S V at a ys (Bad k) o p h = record {
-  place = length a + h.place;
-  offset = let w : k ≡ at + length a + h.place = h.offset in omega arith;
-  within = let w : h.place < length ys = h.within in omega (arith, length-append a ys);
-  before = subst (λ s. Front S s) (sym (take-append-add a ys h.place)) (Front-tail S V a (take h.place ys) p h.before);
-  stops = subst (λ s. Barred T s) (sym (more_taken a ys h.place)) (Barred-tail T U a (take (suc h.place) ys) o h.stops);
+  index = length a + h.index;
+  offset = let w : k ≡ at + length a + h.index = h.offset in omega arith;
+  within = let w : h.index < length ys = h.within in omega (arith, length-append a ys);
+  before = subst (λ s. Front S s) (sym (take-append-add a ys h.index)) (Front-tail S V a (take h.index ys) p h.before);
+  stops = subst (λ s. Barred T s) (sym (more_taken a ys h.index)) (Barred-tail T U a (take (suc h.index) ys) o h.stops);
 }
 fault_tail T U S V at a ys _ o p h = h
 

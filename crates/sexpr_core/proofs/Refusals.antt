@@ -199,8 +199,8 @@ barred_begins T xs h b = h.bars (xs ++ b.rest) b.rest [] b.whole (sym (append-ni
 pub refused : (text : List ℕ) (e : FormFault) → FaultAt IsCanon (IsCanonWithin 64) 0 text e → Refused text e
 refused text TooDeep h = search (rules, front_begins, barred_begins)
 refused text (Bad k) h =
-    let e : h.place ≡ k = let o : k ≡ 0 + h.place = h.offset in omega arith in
-    let f : suc h.place ≡ k + 1 = omega arith in
+    let e : h.index ≡ k = let o : k ≡ 0 + h.index = h.offset in omega arith in
+    let f : suc h.index ≡ k + 1 = omega arith in
     search (rules, barred_begins)
 refused text _ h = search rules
 

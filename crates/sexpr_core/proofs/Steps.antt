@@ -88,17 +88,17 @@ octets_read text at n to short begins r h =
 -- ---- strings
 
 pub in_hint :
-    (room : ℕ) (text : List ℕ) (at : ℕ) (e : FormFault) → StandsAt text at 91 →
+    (max_depth : ℕ) (text : List ℕ) (at : ℕ) (e : FormFault) → StandsAt text at 91 →
     MissesAt IsVerbatim (at + 1) (drop (at + 1) text) e →
-    FaultAt IsCanon (IsCanonWithin room) at (drop at text) e
-in_hint room text at e s h = bracket_fault room at (drop at text) (drop (at + 1) text) e s.spelled (hint_fault (at + 1) (drop (at + 1) text) e h)
+    FaultAt IsCanon (IsCanonWithin max_depth) at (drop at text) e
+in_hint max_depth text at e s h = bracket_fault max_depth at (drop at text) (drop (at + 1) text) e s.spelled (hint_fault (at + 1) (drop (at + 1) text) e h)
 
 pub behind_hint :
-    (room : ℕ) (text : List ℕ) (at body to : ℕ) (e : FormFault) → StandsAt text at 91 →
+    (max_depth : ℕ) (text : List ℕ) (at body to : ℕ) (e : FormFault) → StandsAt text at 91 →
     ReadsVerbatim text (at + 1) body to → MissesAt IsClosing to (drop to text) e →
-    FaultAt IsCanon (IsCanonWithin room) at (drop at text) e
-behind_hint room text at body to e s r h =
-    bracket_fault room at (drop at text) (drop (at + 1) text) e s.spelled
+    FaultAt IsCanon (IsCanonWithin max_depth) at (drop at text) e
+behind_hint max_depth text at body to e s r h =
+    bracket_fault max_depth at (drop at text) (drop (at + 1) text) e s.spelled
     (hinted_fault (at + 1) to r.octets (drop (at + 1) text) (drop to text) e r.spelled
     (read_length text (verbatim r.octets) (at + 1) to (omega (arith, s.within)) r.within r.spelled) h)
 

@@ -178,10 +178,10 @@ pub record IsFilled (t : List ℕ) : Type 0 where
   pub others : Values
   pub is : t ≡ canons (more first others) ++ 41 ∷ []
 
-pub record IsFilledWithin (room : ℕ) (t : List ℕ) : Type 0 where
+pub record IsFilledWithin (max_depth : ℕ) (t : List ℕ) : Type 0 where
   pub first : Value
   pub others : Values
-  pub fits : depths (more first others) ≤ room
+  pub fits : depths (more first others) ≤ max_depth
   pub is : t ≡ canons (more first others) ++ 41 ∷ []
 
 -- a hinted string after its opening bracket
@@ -304,8 +304,8 @@ Behind-bracket = record {
   back = λ t x y is e. hinted_back is.value t x y is.is e;
 }
 
-pub Behind-bracket_within : (room : ℕ) → Behind (IsCanonWithin room) IsHinted (91 ∷ [])
-Behind-bracket_within room = record {
+pub Behind-bracket_within : (max_depth : ℕ) → Behind (IsCanonWithin max_depth) IsHinted (91 ∷ [])
+Behind-bracket_within max_depth = record {
   on = λ b is. record { value = string (Some is.hint) is.octets; fits = omega arith; is = ap (λ t. 91 ∷ t) is.is };
   back = λ t x y is e. hinted_back is.value t x y is.is e;
 }
@@ -320,8 +320,8 @@ From-digit c low = record {
   back = λ t x y is e. plain_back is.value t x y c low is.is e;
 }
 
-pub From-digit_within : (room c : ℕ) → IsDigit c → From c (IsCanonWithin room) IsVerbatim
-From-digit_within room c low = record {
+pub From-digit_within : (max_depth c : ℕ) → IsDigit c → From c (IsCanonWithin max_depth) IsVerbatim
+From-digit_within max_depth c low = record {
   on = λ t is. record { value = string None is.octets; fits = omega arith; is = is.is };
   back = λ t x y is e. plain_back is.value t x y c low is.is e;
 }

@@ -5,15 +5,15 @@ use Rattle.sexpr_core.specs.declared.{fault.FormFault.{FormFault}, layout.Record
 use Rattle.sexpr_core.specs.Value.{Value, Values, string, list, none, more, canon, canons, depth, depths, nodes, nodes_all, size}
 use Rattle.sexpr_core.specs.Reading.{Front, IsCanon, IsCanonWithin, IsMembers, IsMembersWithin, StandsAt, ReadsString, ReadsValue, ReadsMembers, PassesValue, PassesMembers}
 use Rattle.sexpr_core.specs.{Nodes.{record_of, records_all}, Inner.PartFaults.{FaultAt}}
-use Rattle.sexpr_core.proofs.{RecordLaws.{as_many, places_all}, ListTexts.{join, canons-join, depths-join}}
+use Rattle.sexpr_core.proofs.{RecordLaws.{as_many, recorded_nodes_all}, ListTexts.{join, canons-join, depths-join}}
 use Rattle.sexpr_core.proofs.{Faults.{canon_some, members_short, member_fault}, Steps.{read_length}}
 
 -- ---- values
 
 pub string_value :
-    (room : ℕ) (text : List ℕ) (at : ℕ) (read : Record) (old new : List Record) → at ≤ length text →
-    ReadsString text at read → new ≡ old ++ read ∷ [] → ReadsValue room text at read.end old new
-string_value room text at read old new w r e =
+    (max_depth : ℕ) (text : List ℕ) (at : ℕ) (read : Record) (old new : List Record) → at ≤ length text →
+    ReadsString text at read → new ≡ old ++ read ∷ [] → ReadsValue max_depth text at read.end old new
+string_value max_depth text at read old new w r e =
     let k : read.end ≤ length text = r.within in
     let l : read.end ≡ at + length (canon (string r.hint r.octets)) =
     read_length text (canon (string r.hint r.octets)) at read.end w k r.spelled in
@@ -27,7 +27,7 @@ string_value room text at read old new w r e =
     }
 
 records_all_many : (at : ℕ) (vs : Values) → length (records_all at vs) ≡ length (nodes_all vs)
-records_all_many at vs = as_many _ (records_all at vs) (nodes_all vs) (places_all _ (replicate at 0) [] at vs (length-replicate at 0) refl)
+records_all_many at vs = as_many _ (records_all at vs) (nodes_all vs) (recorded_nodes_all _ (replicate at 0) [] at vs (length-replicate at 0) refl)
 
 -- a list's record
 abbrev pub listed : ℕ → ℕ → ℕ → Record
@@ -74,11 +74,11 @@ list_short inner text at to index many kept old pushed grown s i d r m =
 
 -- the list's record replaces the one that was put in its place before its end was known
 pub list_read :
-    (room inner : ℕ) (text : List ℕ) (at to index many : ℕ) (kept : Record) (old pushed grown : List Record) →
-    room ≡ suc inner → StandsAt text at 40 → index ≡ length old → pushed ≡ old ++ kept ∷ [] →
+    (max_depth inner : ℕ) (text : List ℕ) (at to index many : ℕ) (kept : Record) (old pushed grown : List Record) →
+    max_depth ≡ suc inner → StandsAt text at 40 → index ≡ length old → pushed ≡ old ++ kept ∷ [] →
     ReadsMembers inner text (at + 1) to pushed grown → many ≡ length grown - index →
-    ReadsValue room text at to old (set grown index (listed at to many))
-list_read room inner text at to index many kept old pushed grown q s i d r m =
+    ReadsValue max_depth text at to old (set grown index (listed at to many))
+list_read max_depth inner text at to index many kept old pushed grown q s i d r m =
     let k : to ≤ length text = r.within in
     let g : at + 1 < to = r.goes_on in
     let f : depths r.items ≤ inner = r.fits in
@@ -96,18 +96,18 @@ list_read room inner text at to index many kept old pushed grown q s i d r m =
 -- ---- members
 
 -- the members that a loop has read up to an offset
-pub record HasMembers (room : ℕ) (text : List ℕ) (at to : ℕ) (old new : List Record) : Type 0 where
+pub record HasMembers (max_depth : ℕ) (text : List ℕ) (at to : ℕ) (old new : List Record) : Type 0 where
   pub items : Values
-  pub fits : depths items ≤ room
+  pub fits : depths items ≤ max_depth
   pub spelled : drop at text ≡ canons items ++ drop to text
   pub placed : new ≡ old ++ records_all at items
   pub ahead : at ≤ to
   pub within : to ≤ length text
 
 pub no_members :
-    (room : ℕ) (text : List ℕ) (at : ℕ) (old : List Record) → at ≤ length text →
-    HasMembers room text at at old old
-no_members room text at old w = record {
+    (max_depth : ℕ) (text : List ℕ) (at : ℕ) (old : List Record) → at ≤ length text →
+    HasMembers max_depth text at at old old
+no_members max_depth text at old w = record {
   items = none;
   fits = omega arith;
   spelled = refl;
@@ -123,18 +123,18 @@ records_all-join at none ws = ap (λ n. records_all n ws) (omega arith)
 records_all-join at (more v vs) ws = search (rules, length-append, append_assoc, records_all-join (at + length (canon v)) vs ws)
 
 pub more_members :
-    (room : ℕ) (text : List ℕ) (at via to : ℕ) (old new newer : List Record) → at ≤ length text →
-    HasMembers room text at via old new → ReadsValue room text via to new newer →
-    HasMembers room text at to old newer
-more_members room text at via to old new newer w h r =
+    (max_depth : ℕ) (text : List ℕ) (at via to : ℕ) (old new newer : List Record) → at ≤ length text →
+    HasMembers max_depth text at via old new → ReadsValue max_depth text via to new newer →
+    HasMembers max_depth text at to old newer
+more_members max_depth text at via to old new newer w h r =
     let k : via ≤ length text = h.within in
     let l : via ≡ at + length (canons h.items) = read_length text (canons h.items) at via w k h.spelled in
     let g : via < to = r.goes_on in
     let a : at ≤ via = h.ahead in
-    let f : depth r.value ≤ room = r.fits in
+    let f : depth r.value ≤ max_depth = r.fits in
     record {
       items = join h.items (more r.value none);
-      fits = depths-join room h.items (more r.value none) h.fits (omega arith);
+      fits = depths-join max_depth h.items (more r.value none) h.fits (omega arith);
       spelled = rw (h.spelled, r.spelled, canons-join h.items (more r.value none)) (simp (append_assoc, append-nil) refl);
       placed = rw (r.placed, h.placed, l, records_all-join at h.items (more r.value none)) (simp (append_assoc, append-nil) refl);
       ahead = omega arith;
@@ -142,40 +142,40 @@ more_members room text at via to old new newer w h r =
     }
 
 pub members_end :
-    (room : ℕ) (text : List ℕ) (at to : ℕ) (old new : List Record) →
-    HasMembers room text at to old new → drop to text ≡ [] → Front (IsMembersWithin room) (drop at text)
-members_end room text at to old new h e =
-    members_short room at h.items (drop at text) h.fits (h.spelled ∙ ap (λ t. canons h.items ++ t) e)
+    (max_depth : ℕ) (text : List ℕ) (at to : ℕ) (old new : List Record) →
+    HasMembers max_depth text at to old new → drop to text ≡ [] → Front (IsMembersWithin max_depth) (drop at text)
+members_end max_depth text at to old new h e =
+    members_short max_depth at h.items (drop at text) h.fits (h.spelled ∙ ap (λ t. canons h.items ++ t) e)
 
 pub in_member :
-    (room : ℕ) (text : List ℕ) (at to c : ℕ) (old new : List Record) (e : FormFault) → at ≤ length text →
-    HasMembers room text at to old new → StandsAt text to c → (c ≡ 41 → ⊥) →
-    FaultAt IsCanon (IsCanonWithin room) to (drop to text) e →
-    FaultAt IsMembers (IsMembersWithin room) at (drop at text) e
-in_member room text at to c old new e w h s nc f = search (rules, member_fault, read_length)
+    (max_depth : ℕ) (text : List ℕ) (at to c : ℕ) (old new : List Record) (e : FormFault) → at ≤ length text →
+    HasMembers max_depth text at to old new → StandsAt text to c → (c ≡ 41 → ⊥) →
+    FaultAt IsCanon (IsCanonWithin max_depth) to (drop to text) e →
+    FaultAt IsMembers (IsMembersWithin max_depth) at (drop at text) e
+in_member max_depth text at to c old new e w h s nc f = search (rules, member_fault, read_length)
 
 -- ---- without records
 
 members_behind :
-    (room : ℕ) (text : List ℕ) (at to : ℕ) (old : List Record) (p : PassesMembers room text at to) →
-    ReadsMembers room text at to old (old ++ p.0)
-members_behind room text at to old p = search rules
+    (max_depth : ℕ) (text : List ℕ) (at to : ℕ) (old : List Record) (p : PassesMembers max_depth text at to) →
+    ReadsMembers max_depth text at to old (old ++ p.0)
+members_behind max_depth text at to old p = search rules
 
 pub list_passed :
-    (room inner : ℕ) (text : List ℕ) (at to : ℕ) → room ≡ suc inner → StandsAt text at 40 →
-    PassesMembers inner text (at + 1) to → PassesValue room text at to
-list_passed room inner text at to q s p =
+    (max_depth inner : ℕ) (text : List ℕ) (at to : ℕ) → max_depth ≡ suc inner → StandsAt text at 40 →
+    PassesMembers inner text (at + 1) to → PassesValue max_depth text at to
+list_passed max_depth inner text at to q s p =
     let kept : Record = listed at to 1 in
-    (_, list_read room inner text at to 0 _ kept [] (kept ∷ []) _ q s refl refl (members_behind inner text (at + 1) to (kept ∷ []) p) refl)
+    (_, list_read max_depth inner text at to 0 _ kept [] (kept ∷ []) _ q s refl refl (members_behind inner text (at + 1) to (kept ∷ []) p) refl)
 
 pub member_passed :
-    (room : ℕ) (text : List ℕ) (at via to : ℕ) → at ≤ length text →
-    (nodes : List Record) × HasMembers room text at via [] nodes → PassesValue room text via to →
-    (nodes : List Record) × HasMembers room text at to [] nodes
-member_passed room text at via to w h p = search (rules, more_members room text at via to [] h.0 (h.0 ++ p.0) w h.1 (search rules))
+    (max_depth : ℕ) (text : List ℕ) (at via to : ℕ) → at ≤ length text →
+    (nodes : List Record) × HasMembers max_depth text at via [] nodes → PassesValue max_depth text via to →
+    (nodes : List Record) × HasMembers max_depth text at to [] nodes
+member_passed max_depth text at via to w h p = search (rules, more_members max_depth text at via to [] h.0 (h.0 ++ p.0) w h.1 (search rules))
 
 pub members_passed :
-    (room : ℕ) (text : List ℕ) (at i c : ℕ) →
-    (nodes : List Record) × HasMembers room text at i [] nodes → StandsAt text i c → c ≡ 41 →
-    PassesMembers room text at (i + 1)
-members_passed room text at i c h s e = search rules
+    (max_depth : ℕ) (text : List ℕ) (at i c : ℕ) →
+    (nodes : List Record) × HasMembers max_depth text at i [] nodes → StandsAt text i c → c ≡ 41 →
+    PassesMembers max_depth text at (i + 1)
+members_passed max_depth text at i c h s e = search rules

@@ -27,20 +27,20 @@ nodes-first (list vs) = refl
 -- the values that begin a list of nodes and follow one another in it, at most so many
 abbrev pub siblings : ℕ → List Value → List Value
 siblings zero row = []
-siblings (suc most) [] = []
-siblings (suc most) (v ∷ row) = v ∷ siblings most (drop (size v - 1) row)
+siblings (suc max_count) [] = []
+siblings (suc max_count) (v ∷ row) = v ∷ siblings max_count (drop (size v - 1) row)
 
 -- in the list of the nodes of a list's members, the siblings from the first node on are the members
-pub siblings-nodes_all : (vs : Values) (most : ℕ) → length (nodes_all vs) ≤ most → siblings most (nodes_all vs) ≡ members vs
+pub siblings-nodes_all : (vs : Values) (max_count : ℕ) → length (nodes_all vs) ≤ max_count → siblings max_count (nodes_all vs) ≡ members vs
 siblings-nodes_all none zero le = refl
-siblings-nodes_all none (suc most) le = refl
+siblings-nodes_all none (suc max_count) le = refl
 siblings-nodes_all (more v vs) zero le = absurd (omega (arith, ap length (nodes-first v), length-append (nodes v) (nodes_all vs)))
-siblings-nodes_all (more v vs) (suc most) le =
+siblings-nodes_all (more v vs) (suc max_count) le =
     let rest = drop 1 (nodes v) in
     let long : size v ≡ suc (length rest) = ap length (nodes-first v) in
     let row_is : nodes v ++ nodes_all vs ≡ v ∷ (rest ++ nodes_all vs) = ap (λ (r : List Value). r ++ nodes_all vs) (nodes-first v) in
     let behind : drop (size v - 1) (rest ++ nodes_all vs) ≡ nodes_all vs = drop_at rest (nodes_all vs) (size v - 1) (omega arith) in
-    ap (siblings (suc most)) row_is ∙ ap (λ (r : List Value). v ∷ siblings most r) behind ∙ ap (λ (ws : List Value). v ∷ ws) (siblings-nodes_all vs most (omega (arith, length-append (nodes v) (nodes_all vs))))
+    ap (siblings (suc max_count)) row_is ∙ ap (λ (r : List Value). v ∷ siblings max_count r) behind ∙ ap (λ (ws : List Value). v ∷ ws) (siblings-nodes_all vs max_count (omega (arith, length-append (nodes v) (nodes_all vs))))
 
 -- ---- a value as the list of its nodes' labels
 
@@ -248,7 +248,7 @@ pub record IsTable (text : List ℕ) (table : List Record) (v : Value) : Type 0 
 -- ---- a node's text is where its record says
 
 -- the value's canonical text is in the text where the record begins, and the record is the value's
-pub record IsPlace (text : List ℕ) (r : Record) (v : Value) : Type 0 where
+pub record IsRecordOf (text : List ℕ) (r : Record) (v : Value) : Type 0 where
   pub before : List ℕ
   pub after : List ℕ
   pub parts : text ≡ before ++ (canon v ++ after)

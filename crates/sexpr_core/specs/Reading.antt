@@ -35,9 +35,9 @@ pub record IsCanon (t : List ℕ) : Type 0 where
   pub is : t ≡ canon value
 
 -- the same for a value in which at most so many lists are open at once
-pub record IsCanonWithin (room : ℕ) (t : List ℕ) : Type 0 where
+pub record IsCanonWithin (max_depth : ℕ) (t : List ℕ) : Type 0 where
   pub value : Value
-  pub fits : depth value ≤ room
+  pub fits : depth value ≤ max_depth
   pub is : t ≡ canon value
 
 -- the members of a list and its closing parenthesis
@@ -46,9 +46,9 @@ pub record IsMembers (t : List ℕ) : Type 0 where
   pub is : t ≡ canons items ++ char ")" ∷ []
 
 -- the same if at most so many lists are open at once in the members
-pub record IsMembersWithin (room : ℕ) (t : List ℕ) : Type 0 where
+pub record IsMembersWithin (max_depth : ℕ) (t : List ℕ) : Type 0 where
   pub items : Values
-  pub fits : depths items ≤ room
+  pub fits : depths items ≤ max_depth
   pub is : t ≡ canons items ++ char ")" ∷ []
 
 -- a string in verbatim form
@@ -96,19 +96,19 @@ pub record ReadsString (text : List ℕ) (at : ℕ) (read : Record) : Type 0 whe
   pub placed : records at (string hint octets) ≡ read ∷ []
   pub within : read.end ≤ length text
 
--- a value in which at most `room` lists are open at once; its records follow the old ones
-pub record ReadsValue (room : ℕ) (text : List ℕ) (at to : ℕ) (old new : List Record) : Type 0 where
+-- a value in which at most `max_depth` lists are open at once; its records follow the old ones
+pub record ReadsValue (max_depth : ℕ) (text : List ℕ) (at to : ℕ) (old new : List Record) : Type 0 where
   pub value : Value
-  pub fits : depth value ≤ room
+  pub fits : depth value ≤ max_depth
   pub spelled : drop at text ≡ canon value ++ drop to text
   pub placed : new ≡ old ++ records at value
   pub goes_on : at < to
   pub within : to ≤ length text
 
 -- the members of a list and its closing parenthesis
-pub record ReadsMembers (room : ℕ) (text : List ℕ) (at to : ℕ) (old new : List Record) : Type 0 where
+pub record ReadsMembers (max_depth : ℕ) (text : List ℕ) (at to : ℕ) (old new : List Record) : Type 0 where
   pub items : Values
-  pub fits : depths items ≤ room
+  pub fits : depths items ≤ max_depth
   pub spelled : drop at text ≡ canons items ++ char ")" ∷ drop to text
   pub placed : new ≡ old ++ records_all at items
   pub goes_on : at < to
@@ -116,11 +116,11 @@ pub record ReadsMembers (room : ℕ) (text : List ℕ) (at to : ℕ) (old new : 
 
 -- a value was read in the same way, and no records are kept
 abbrev pub PassesValue : ℕ → List ℕ → ℕ → ℕ → Type 0
-PassesValue room text at to = (nodes : List Record) × ReadsValue room text at to [] nodes
+PassesValue max_depth text at to = (nodes : List Record) × ReadsValue max_depth text at to [] nodes
 
 -- the same for the members of a list with its closing parenthesis
 abbrev pub PassesMembers : ℕ → List ℕ → ℕ → ℕ → Type 0
-PassesMembers room text at to = (nodes : List Record) × ReadsMembers room text at to [] nodes
+PassesMembers max_depth text at to = (nodes : List Record) × ReadsMembers max_depth text at to [] nodes
 
 -- ---- why a text is refused (RFC 9804, section 6.2, within this reader's limits)
 

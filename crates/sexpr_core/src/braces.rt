@@ -7,7 +7,7 @@ ghost use Rattle.sexpr_core.specs.{Value.{Value, canon, IsWithinLimits, sexp_val
 use crate::checker::check_canonical;
 use crate::fault::FormFault;
 use crate::owned_trees::decode;
-use crate::parser::MOST_OCTETS;
+use crate::parser::MAX_OCTETS;
 use crate::spaces::{ended, octet_at, skip_spaces};
 use crate::tree::Sexp;
 use crate::writer::encode;
@@ -118,7 +118,7 @@ fn gather_symbols(alloc: Global, text: &[u8], at: usize, mark: u8) -> Result<Gat
 fn pad(symbols: &mut Vec<u8>, missing: usize) -> Result<(), AllocError>
     ensures { OnOk result (symbols.new.items ≡ symbols.old.items ++ replicate missing 61) }
 {
-    for place in 0..missing {
+    for index in 0..missing {
         symbols.push(b'=')?;
     }
     Ok(())
@@ -170,9 +170,9 @@ pub fn read_base64(alloc: Global, text: &[u8], at: usize, mark: u8) -> Result<Un
 }
 
 /// The fault to report for a text in braces if the octets decoded from it have the fault `fault`. `TooDeep` stays, and
-/// `Memory`, which `check_canonical` never returns. `Short`, `Bad` and `Trailing` are about places in the decoded
+/// `Memory`, which `check_canonical` never returns. `Short`, `Bad` and `Trailing` are about offsets in the decoded
 /// octets. Each becomes `Bad` at `at`, the offset of the closing brace in the text. So would `TooLong`, which does not
-/// occur: the decoded octets are at most `MOST_OCTETS`.
+/// occur: the decoded octets are at most `MAX_OCTETS`.
 fn body_fault(fault: FormFault, at: usize) -> FormFault
     ensures { IsBodyFault fault at result }
 {
@@ -183,8 +183,8 @@ fn body_fault(fault: FormFault, at: usize) -> FormFault
     }
 }
 
-/// Checks that the octets decoded from a text in braces, at most `MOST_OCTETS`, are one value in canonical form, with
-/// at most `MOST_LISTS` lists open at once. Err is `TooDeep` if more are, and for any other fault `Bad` at the offset
+/// Checks that the octets decoded from a text in braces, at most `MAX_OCTETS`, are one value in canonical form, with
+/// at most `MAX_LISTS` lists open at once. Err is `TooDeep` if more are, and for any other fault `Bad` at the offset
 /// `at`, which is that of the closing brace. It is never `Memory`, since nothing is allocated.
 #[tactic(auto, using(crate::proofs::Refusals::body_refused))]
 fn check_body(octets: &[u8], at: usize) -> Result<(), FormFault>
@@ -205,9 +205,9 @@ fn check_body(octets: &[u8], at: usize) -> Result<(), FormFault>
 ///
 /// # Errors
 ///
-/// TooLong: the text has more than `MOST_OCTETS` octets. Otherwise the first fault from the left. Bad: the first octet
+/// TooLong: the text has more than `MAX_OCTETS` octets. Otherwise the first fault from the left. Bad: the first octet
 /// past whitespace is no opening brace, or an octet in the body is not a symbol, `=` or whitespace. Short: the text
-/// ends before the closing brace. At the closing brace TooDeep: the octets open more than `MOST_LISTS` lists at once;
+/// ends before the closing brace. At the closing brace TooDeep: the octets open more than `MAX_LISTS` lists at once;
 /// or Bad: the body is no base64 of a canonical form. Trailing: an octet after the braces is not whitespace. Memory:
 /// memory ran out.
 pub fn unwrap_braces(alloc: Global, text: &[u8]) -> Result<Sexp, FormFault>
@@ -225,9 +225,9 @@ pub fn unwrap_braces(alloc: Global, text: &[u8]) -> Result<Sexp, FormFault>
 ///
 /// # Errors
 ///
-/// As of `unwrap_braces`, which calls this. TooLong: the text has more than `MOST_OCTETS` octets. Otherwise the first
+/// As of `unwrap_braces`, which calls this. TooLong: the text has more than `MAX_OCTETS` octets. Otherwise the first
 /// fault from the left. Bad: at an octet that is not allowed in its place, or at the closing brace if the body is no
-/// base64 of a canonical form. TooDeep: the body opens more than `MOST_LISTS` lists at once. Short: the text ends before
+/// base64 of a canonical form. TooDeep: the body opens more than `MAX_LISTS` lists at once. Short: the text ends before
 /// the closing brace. Trailing: an octet after the braces is not whitespace. Memory: memory ran out.
 pub fn octets_in_braces(alloc: Global, text: &[u8]) -> Result<Vec<u8>, FormFault>
     ensures read { IfOk result (λ octets. (v : Value) × IsBracedWithin text.now v × (octets.items ≡ canon v)) }
@@ -235,7 +235,7 @@ pub fn octets_in_braces(alloc: Global, text: &[u8]) -> Result<Vec<u8>, FormFault
     ensures too_long { IsErrOf result FormFault.TooLong ↔ (1048576 < length text.now) }
     ensures refused { IfErr result (λ fault. RefusesBraces text.now fault) }
 {
-    if text.len() > MOST_OCTETS {
+    if text.len() > MAX_OCTETS {
         return Err(FormFault::TooLong);
     }
     let begin = skip_spaces(text, 0);

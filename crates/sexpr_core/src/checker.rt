@@ -9,71 +9,71 @@ ghost use Rattle.sexpr_core.specs.Reading.{Refused, IsCanon, IsCanonWithin, IsMe
 ghost use Rattle.sexpr_core.specs.Inner.PartFaults.{FaultAt};
 
 use crate::fault::FormFault;
-use crate::parser::{MOST_LISTS, MOST_OCTETS, read_string};
+use crate::parser::{MAX_LISTS, MAX_OCTETS, read_string};
 use crate::spaces::octet_at;
 
 /// Checks the value at the offset `at`, which may be the end of the text, and returns the offset after the value. Unlike
-/// `read_value` of the parser, it keeps no record of a node. The text has at most `MOST_OCTETS` octets. At most `room` lists may
+/// `read_value` of the parser, it keeps no record of a node. The text has at most `MAX_OCTETS` octets. At most `max_depth` lists may
 /// be open at once in the value. Err is the first fault from the left: `TooDeep`, `Short` or `Bad`.
 #[cycle(passing)]
-fn pass_value(text: &[u8], at: usize, room: usize) -> Result<usize, FormFault>
+fn pass_value(text: &[u8], at: usize, max_depth: usize) -> Result<usize, FormFault>
     requires short { length text.now ≤ 1048576 }
     requires begins { at ≤ length text.now }
     ensures { MatchResult result
-        (λ to. PassesValue room text.now at to)
-        (λ fault. FaultAt IsCanon (IsCanonWithin room) at (drop at text.now) fault) }
+        (λ to. PassesValue max_depth text.now at to)
+        (λ fault. FaultAt IsCanon (IsCanonWithin max_depth) at (drop at text.now) fault) }
 {
     let Some(octet) = octet_at(text, at) else {
         return Err(FormFault::Short);
     };
     if octet == b'(' {
-        return pass_list(text, at, room);
+        return pass_list(text, at, max_depth);
     }
     let read = read_string(text, at, octet)?;
     Ok(read.end as usize)
 }
 
 /// Checks the list whose opening parenthesis is at `at`, and returns the offset after it. The text has at most
-/// `MOST_OCTETS` octets. At most `room` lists may be open at once, this one included. Err is the first fault from the
+/// `MAX_OCTETS` octets. At most `max_depth` lists may be open at once, this one included. Err is the first fault from the
 /// left: `TooDeep`, `Short` or `Bad`.
 #[cycle(passing)]
-fn pass_list(text: &[u8], at: usize, room: usize) -> Result<usize, FormFault>
+fn pass_list(text: &[u8], at: usize, max_depth: usize) -> Result<usize, FormFault>
     requires short { length text.now ≤ 1048576 }
     requires begins { StandsAt text.now at 40 }
     ensures { MatchResult result
-        (λ to. PassesValue room text.now at to)
-        (λ fault. FaultAt IsCanon (IsCanonWithin room) at (drop at text.now) fault) }
+        (λ to. PassesValue max_depth text.now at to)
+        (λ fault. FaultAt IsCanon (IsCanonWithin max_depth) at (drop at text.now) fault) }
 {
-    if room == 0 {
+    if max_depth == 0 {
         return Err(FormFault::TooDeep);
     }
-    let end = pass_members(text, at + 1, room - 1)?;
+    let end = pass_members(text, at + 1, max_depth - 1)?;
     Ok(end)
 }
 
 /// Checks the members of a list and its closing parenthesis, from the offset `at` on, which may be the end of the text.
-/// Returns the offset after the list. The text has at most `MOST_OCTETS` octets. At most `room` lists may be open at
+/// Returns the offset after the list. The text has at most `MAX_OCTETS` octets. At most `max_depth` lists may be open at
 /// once in the members. Err is the first fault from the left: `TooDeep`, `Short` or `Bad`.
 #[cycle(passing)]
-fn pass_members(text: &[u8], at: usize, room: usize) -> Result<usize, FormFault>
+fn pass_members(text: &[u8], at: usize, max_depth: usize) -> Result<usize, FormFault>
     requires short { length text.now ≤ 1048576 }
     requires begins { at ≤ length text.now }
     ensures { MatchResult result
-        (λ to. PassesMembers room text.now at to)
-        (λ fault. FaultAt IsMembers (IsMembersWithin room) at (drop at text.now) fault) }
+        (λ to. PassesMembers max_depth text.now at to)
+        (λ fault. FaultAt IsMembers (IsMembersWithin max_depth) at (drop at text.now) fault) }
 {
     let mut i = at;
     while let Some(octet) = octet_at(text, i) {
         if octet == b')' {
             return Ok(i + 1);
         }
-        i = pass_value(text, i, room)?;
+        i = pass_value(text, i, max_depth)?;
     }
     Err(FormFault::Short)
 }
 
-/// Checks that a text is one value in canonical form. Err is `TooLong` for over `MOST_OCTETS` octets, or the first
-/// fault from the left: `TooDeep` if over `MOST_LISTS` lists are open at once, `Short`, `Bad` or `Trailing`. It is never
+/// Checks that a text is one value in canonical form. Err is `TooLong` for over `MAX_OCTETS` octets, or the first
+/// fault from the left: `TooDeep` if over `MAX_LISTS` lists are open at once, `Short`, `Bad` or `Trailing`. It is never
 /// `Memory`, since nothing is allocated.
 #[tactic(auto, using(crate::proofs::Refusals::refused, crate::proofs::Refusals::trailing, crate::proofs::Refusals::only_memory))]
 pub(crate) fn check_canonical(text: &[u8]) -> Result<(), FormFault>
@@ -82,10 +82,10 @@ pub(crate) fn check_canonical(text: &[u8]) -> Result<(), FormFault>
     ensures too_long { IsErrOf result FormFault.TooLong ↔ (1048576 < length text.now) }
     ensures refused { IfErr result (λ fault. Refused text.now fault) }
 {
-    if text.len() > MOST_OCTETS {
+    if text.len() > MAX_OCTETS {
         return Err(FormFault::TooLong);
     }
-    let end = pass_value(text, 0, MOST_LISTS)?;
+    let end = pass_value(text, 0, MAX_LISTS)?;
     if end < text.len() {
         return Err(FormFault::Trailing(end));
     }

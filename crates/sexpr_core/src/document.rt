@@ -1,7 +1,7 @@
 //! A canonical text with a table of its nodes.
 
 ghost use Rattle.std.specs.Prelude.{◌≡◌, ◌≢◌, ◌<◌, ◌≤◌, ◌^◌, ◌↔◌, length, Some, None, IsTrue, IfOk, IfErr, IsErrOf, IsOkUnless};
-ghost use Rattle.sexpr_core.specs.{Value.{Value, canon, size, node, IsWithinLimits}, Reading.{Refused}, Nodes.{IsPlace, IsList, node_at, hint_of, start_of}};
+ghost use Rattle.sexpr_core.specs.{Value.{Value, canon, size, node, IsWithinLimits}, Reading.{Refused}, Nodes.{IsRecordOf, IsList, node_at, hint_of, start_of}};
 
 use crate::fault::FormFault;
 use crate::handle::Node;
@@ -40,13 +40,13 @@ impl<'a> Model for Doc<'a> {
 }
 
 impl<'a> Doc<'a> {
-    /// Reads a text that is one value in canonical form (RFC 9804, section 6.2). The text has at most `MOST_OCTETS` octets,
-    /// and at most `MOST_LISTS` lists are open in it at once. The call takes time linear in the octets, and reads no octet
+    /// Reads a text that is one value in canonical form (RFC 9804, section 6.2). The text has at most `MAX_OCTETS` octets,
+    /// and at most `MAX_LISTS` lists are open in it at once. The call takes time linear in the octets, and reads no octet
     /// of a string's body.
     ///
     /// # Errors
     ///
-    /// `TooLong` for over `MOST_OCTETS` octets. Otherwise the first fault from the left, `TooDeep`, `Short`, `Bad` or
+    /// `TooLong` for over `MAX_OCTETS` octets. Otherwise the first fault from the left, `TooDeep`, `Short`, `Bad` or
     /// `Trailing`, or `Memory` if memory ran out. `FormFault` says what each means.
     pub fn open(alloc: Global, text: &'a [u8]) -> Result<Doc<'a>, FormFault>
         ensures read { IfOk result (λ document. (text.entry.now ≡ canon document) × IsWithinLimits document) }
@@ -84,11 +84,11 @@ impl<'a> Doc<'a> {
         self.text
     }
 
-    /// The record of the node with this number, from 0: its place in the text. The document must have this node.
-    #[tactic(auto, using(crate::proofs::RecordLaws::table_length, crate::proofs::RecordLaws::table_place, crate::proofs::RecordLaws::table_start))]
+    /// The record of the node with this number, from 0: its offsets in the text. The document must have this node.
+    #[tactic(auto, using(crate::proofs::RecordLaws::table_length, crate::proofs::RecordLaws::table_recorded, crate::proofs::RecordLaws::table_start))]
     pub(crate) fn record(&self, n: usize) -> Record
         requires { n < size self.now }
-        ensures place { IsPlace (canon self.now) result (node_at self.now n) }
+        ensures recorded { IsRecordOf (canon self.now) result (node_at self.now n) }
         ensures start { start_of self.now n ≡ Some result.start }
         ensures countable { size self.now < 2 ^ 64 }
     {

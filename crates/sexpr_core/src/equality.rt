@@ -80,7 +80,7 @@ fn same_trees(tree: &Sexp, other: &Sexp) -> bool
     }
 }
 
-/// Whether both lists have equally many members, and those at each place have the same value.
+/// Whether both lists have equally many members, and those at each index have the same value.
 #[cycle(same)]
 fn same_members(members: &[Sexp], others: &[Sexp]) -> bool
     ensures { IsTrue result ↔ (map sexp_value members.now ≡ map sexp_value others.now) }

@@ -106,7 +106,7 @@ impl<'d, 'a> Node<'d, 'a> {
     }
 
     /// The octets of the node's display hint. The node must be a string that has one. The table of nodes does not have
-    /// their place, since hints are rare: the length of the hint, after the opening bracket, is read again. In the text
+    /// its offset, since hints are rare: the length of the hint, after the opening bracket, is read again. In the text
     /// of a document this does not fail, so `unreachable!()` is not reached.
     fn hint_octets(&self) -> &'a [u8]
         requires { hint_of self.now ≢ None }

@@ -1,6 +1,6 @@
 //! Where a node is in a canonical text.
 
-/// The place of a node, a string or a list, in the text of its document. Offsets are counted from 0 in the whole text. A
+/// Where a node, a string or a list, is in the text of its document. Offsets are counted from 0 in the whole text. A
 /// text has at most 1,048,576 octets, so 32 bits hold each number, and a record takes 12 bytes. A record does not say whether
 /// a string has a display hint: if it has one, the text of the string begins with a bracket.
 #[derive(Clone, Copy)]

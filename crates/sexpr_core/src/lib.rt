@@ -29,6 +29,6 @@ pub use braces::{unwrap_braces, wrap};
 pub use document::{Doc, NodeId};
 pub use fault::FormFault;
 pub use owned_trees::decode;
-pub use parser::{MOST_LISTS, MOST_OCTETS};
+pub use parser::{MAX_LISTS, MAX_OCTETS};
 pub use tree::{Atom, Sexp};
 pub use writer::encode;

@@ -93,7 +93,7 @@ impl<'a> Doc<'a> {
     #[tactic(auto, using(crate::proofs::RecordLaws::starts_end))]
     pub fn start(&self, n: NodeId) -> Option<usize>
         ensures start { result ≡ start_of self.now n.0 }
-        ensures place { IfSome result (λ at. LiesAt (canon self.now) (canon (node_at self.now n.0)) at) }
+        ensures offset { IfSome result (λ at. LiesAt (canon self.now) (canon (node_at self.now n.0)) at) }
     {
         if n.0 < self.node_count() {
             Some(self.record(n.0).start as usize)

@@ -11,11 +11,11 @@ use crate::tree::{Atom, Sexp};
 use std::alloc::{AllocError, Global};
 
 /// Reads a text as an owned tree. The text is one value in canonical form (RFC 9804, section 6.2), of at most
-/// `MOST_OCTETS` octets. At most `MOST_LISTS` lists are open in it at once.
+/// `MAX_OCTETS` octets. At most `MAX_LISTS` lists are open in it at once.
 ///
 /// # Errors
 ///
-/// `TooLong` for over `MOST_OCTETS` octets. Otherwise the first fault from the left, `TooDeep`, `Short`, `Bad` or
+/// `TooLong` for over `MAX_OCTETS` octets. Otherwise the first fault from the left, `TooDeep`, `Short`, `Bad` or
 /// `Trailing`, or `Memory` if memory ran out. `FormFault` says what each means.
 pub fn decode(alloc: Global, text: &[u8]) -> Result<Sexp, FormFault>
     ensures read { IfOk result (λ tree. (text.now ≡ canon (sexp_value tree)) × IsWithinLimits (sexp_value tree)) }

@@ -26,38 +26,39 @@ count_begins count n (inr e) =
       };
     }
 
-pub string_part : (room : ℕ) (x : List ℕ) → Begins IsStringPart x → Begins (IsValuePart room) x
-string_part room x b =
+pub string_part : (max_depth : ℕ) (x : List ℕ) → Begins IsStringPart x → Begins (IsValuePart max_depth) x
+string_part max_depth x b =
     let w : IsStringPart (x ++ b.rest) = b.whole in
     record { rest = b.rest; whole = record { ends_token = w.ends_token; value = string None w.octets; meant = w.meant; fits = omega arith } }
 
 -- a string with a display hint
-pub hinted_value : (room : ℕ) (ends as_token : Bool) (hint octets inside hint_text behind_hint behind octets_text : List ℕ) → AreSpaces inside
+pub hinted_value : (max_depth : ℕ) (ends as_token : Bool) (hint octets inside hint_text behind_hint behind octets_text : List ℕ) → AreSpaces inside
     → Simple as_token hint_text hint → AreSpaces behind_hint → AreSpaces behind → Simple ends octets_text octets
-    → IsValuePart room (91 ∷ (inside ++ (hint_text ++ (behind_hint ++ 93 ∷ (behind ++ octets_text)))))
-hinted_value room ends as_token hint octets inside hint_text behind_hint behind octets_text s m t u n = record {
+    → IsValuePart max_depth (91 ∷ (inside ++ (hint_text ++ (behind_hint ++ 93 ∷ (behind ++ octets_text)))))
+hinted_value max_depth ends as_token hint octets inside hint_text behind_hint behind octets_text s m t u n = record {
   ends_token = ends;
   value = string (Some hint) octets;
   meant = hinted_is ends as_token _ hint octets inside hint_text behind_hint behind octets_text refl s m t u n;
   fits = omega arith;
 }
 
-pub hint_part : (room : ℕ) (inside x : List ℕ) → AreSpaces inside → Begins IsStringPart x → Begins (IsValuePart room) (91 ∷ (inside ++ x))
-hint_part room inside x s b =
+pub hint_part : (max_depth : ℕ) (inside x : List ℕ) → AreSpaces inside → Begins IsStringPart x → Begins (IsValuePart max_depth) (91 ∷ (inside ++ x))
+hint_part max_depth inside x s b =
     let w : IsStringPart (x ++ b.rest) = b.whole in
     record {
       rest = b.rest ++ 93 ∷ 97 ∷ [];
-      whole = subst (IsValuePart room) (simp append_assoc refl)
-          (hinted_value room true w.ends_token w.octets (97 ∷ []) inside (x ++ b.rest) [] [] (97 ∷ []) s w.meant tt tt (refl, (refl, (refl, tt))));
+      whole = subst (IsValuePart max_depth) (simp append_assoc refl)
+          (hinted_value max_depth true w.ends_token w.octets (97 ∷ []) inside (x ++ b.rest) [] [] (97 ∷ []) s w.meant tt tt (refl, (refl, (refl, tt))));
     }
 
-pub body_part : (room : ℕ) (as_token : Bool) (hint inside hint_text behind_hint behind x : List ℕ) → AreSpaces inside → Simple as_token hint_text hint
+pub body_part : (max_depth : ℕ) (as_token : Bool) (hint inside hint_text behind_hint behind x : List ℕ) → AreSpaces inside
+    → Simple as_token hint_text hint
     → AreSpaces behind_hint → AreSpaces behind → Begins IsStringPart x
-    → Begins (IsValuePart room) (91 ∷ (inside ++ (hint_text ++ (behind_hint ++ 93 ∷ (behind ++ x)))))
-body_part room as_token hint inside hint_text behind_hint behind x s m t u b = search (rules, append_assoc, hinted_value)
+    → Begins (IsValuePart max_depth) (91 ∷ (inside ++ (hint_text ++ (behind_hint ++ 93 ∷ (behind ++ x)))))
+body_part max_depth as_token hint inside hint_text behind_hint behind x s m t u b = search (rules, append_assoc, hinted_value)
 
-pub list_part : (room less : ℕ) (x : List ℕ) → suc less ≤ room → Begins (IsMembersPart less) x → Begins (IsValuePart room) (40 ∷ x)
-list_part room less x le b =
+pub list_part : (max_depth less : ℕ) (x : List ℕ) → suc less ≤ max_depth → Begins (IsMembersPart less) x → Begins (IsValuePart max_depth) (40 ∷ x)
+list_part max_depth less x le b =
     let w : IsMembersPart less (x ++ b.rest) = b.whole in
     let deep : depths w.items ≤ less = w.fits in
     record {
@@ -74,10 +75,10 @@ list_part room less x le b =
 only_member : (ends : Bool) (x : List ℕ) (v : Value) → SpellsAs ends x v → SpellsMembers x (more v none)
 only_member ends x v m = ([], ends, x, [], sym (append-nil x), tt, m, end_apart ends, tt)
 
-pub member_part : (room : ℕ) (x : List ℕ) → Begins (IsValuePart room) x → Begins (IsMembersPart room) x
-member_part room x b =
-    let w : IsValuePart room (x ++ b.rest) = b.whole in
-    let deep : depth w.value ≤ room = w.fits in
+pub member_part : (max_depth : ℕ) (x : List ℕ) → Begins (IsValuePart max_depth) x → Begins (IsMembersPart max_depth) x
+member_part max_depth x b =
+    let w : IsValuePart max_depth (x ++ b.rest) = b.whole in
+    let deep : depth w.value ≤ max_depth = w.fits in
     record {
       rest = b.rest ++ 41 ∷ [];
       whole = record {
@@ -89,20 +90,21 @@ member_part room x b =
       };
     }
 
-pub no_member : (room : ℕ) → Begins (IsMembersPart room) []
-no_member room = record { rest = 41 ∷ []; whole = record { inside = []; items = none; spelled = refl; meant = tt; fits = omega arith } }
+pub no_member : (max_depth : ℕ) → Begins (IsMembersPart max_depth) []
+no_member max_depth = record { rest = 41 ∷ []; whole = record { inside = []; items = none; spelled = refl; meant = tt; fits = omega arith } }
 
-pub spaces_part : (room : ℕ) (s x : List ℕ) → AreSpaces s → Begins (IsMembersPart room) x → Begins (IsMembersPart room) (s ++ x)
-spaces_part room s x h b = search (rules, append_assoc, spaces_members)
+pub spaces_part : (max_depth : ℕ) (s x : List ℕ) → AreSpaces s → Begins (IsMembersPart max_depth) x → Begins (IsMembersPart max_depth) (s ++ x)
+spaces_part max_depth s x h b = search (rules, append_assoc, spaces_members)
 
 head_apart : (ends : Bool) (c : ℕ) (xs ys inside : List ℕ) → c ∷ xs ≡ inside ++ 41 ∷ [] → IsApart ends (c ∷ ys) → IsApart ends inside
 head_apart true c xs ys (d ∷ ds) e h = let q : c ≡ d = cc in subst (λ n. is_token_octet n ≡ false) q h
 head_apart ends c xs ys inside e h = tt
 
 -- a whole member, and a beginning of the members after it; if nothing follows, the list may be closed
-pub first_part : (room : ℕ) (ends : Bool) (first : List ℕ) (v : Value) (x y : List ℕ) → SpellsAs ends first v → depth v ≤ room → IsApart ends (x ++ y)
-    → Begins (IsMembersPart room) x → Begins (IsMembersPart room) (first ++ x)
-first_part room ends first v [] y m deep apart b = record {
+pub first_part : (max_depth : ℕ) (ends : Bool) (first : List ℕ) (v : Value) (x y : List ℕ) → SpellsAs ends first v → depth v ≤ max_depth
+    → IsApart ends (x ++ y)
+    → Begins (IsMembersPart max_depth) x → Begins (IsMembersPart max_depth) (first ++ x)
+first_part max_depth ends first v [] y m deep apart b = record {
   rest = 41 ∷ [];
   whole = record {
     inside = first;
@@ -112,9 +114,9 @@ first_part room ends first v [] y m deep apart b = record {
     fits = omega arith;
   };
 }
-first_part room ends first v (c ∷ cs) y m deep apart b =
-    let w : IsMembersPart room ((c ∷ cs) ++ b.rest) = b.whole in
-    let few : depths w.items ≤ room = w.fits in
+first_part max_depth ends first v (c ∷ cs) y m deep apart b =
+    let w : IsMembersPart max_depth ((c ∷ cs) ++ b.rest) = b.whole in
+    let few : depths w.items ≤ max_depth = w.fits in
     record {
       rest = b.rest;
       whole = record {
@@ -133,8 +135,8 @@ pub hinted_unclosed : (as_token : Bool) (hint inside hint_text behind_hint behin
     → IsUnclosedHinted (91 ∷ (inside ++ (hint_text ++ (behind_hint ++ 93 ∷ (behind ++ x)))))
 hinted_unclosed as_token hint inside hint_text behind_hint behind x s m t u k = search rules
 
-list_unclosed : (room less : ℕ) (x : List ℕ) → suc less ≤ room → AreUnclosedMembers less x → IsUnclosedValue room (40 ∷ x)
-list_unclosed room less x le u =
+list_unclosed : (max_depth less : ℕ) (x : List ℕ) → suc less ≤ max_depth → AreUnclosedMembers less x → IsUnclosedValue max_depth (40 ∷ x)
+list_unclosed max_depth less x le u =
     let a : depths u.items ≤ less = u.few in
     let b : depth_open u.lists ≤ less = u.fits in
     record { lists = u.items ∷ u.lists; fits = omega arith; unclosed = (x, refl, u.unclosed) }
@@ -143,10 +145,11 @@ spaces_open : (U : List ℕ → Type 0) (vs : Values) (s x : List ℕ) → AreSp
 spaces_open U none s x h u = (s ++ u.0, u.1, ap (λ t. s ++ t) u.2 ∙ sym (append_assoc s u.0 u.1), spaces_members s u.0 none h u.3, u.4)
 spaces_open U (more v vs) s x h u = search (rules, append_assoc s u.0 (u.2 ++ u.3), spaces_members s u.0 none h u.5)
 
-first_unclosed : (room : ℕ) (ends : Bool) (first : List ℕ) (v : Value) (x y : List ℕ) → SpellsAs ends first v → depth v ≤ room → IsApart ends (x ++ y)
-    → AreUnclosedMembers room x → AreUnclosedMembers room (first ++ x)
-first_unclosed room ends first v x y m deep apart u =
-    let few : depths u.items ≤ room = u.few in
+first_unclosed : (max_depth : ℕ) (ends : Bool) (first : List ℕ) (v : Value) (x y : List ℕ) → SpellsAs ends first v → depth v ≤ max_depth
+    → IsApart ends (x ++ y)
+    → AreUnclosedMembers max_depth x → AreUnclosedMembers max_depth (first ++ x)
+first_unclosed max_depth ends first v x y m deep apart u =
+    let few : depths u.items ≤ max_depth = u.few in
     record {
       items = more v u.items;
       lists = u.lists;
@@ -157,40 +160,42 @@ first_unclosed room ends first v x y m deep apart u =
 
 -- ---- a beginning, or a part that is not closed
 
-pub goes_string : (room : ℕ) (x : List ℕ) → GoesString x → GoesValue room x
-goes_string room x (inl b) = inl (string_part room x b)
-goes_string room x (inr u) = inr (record { lists = []; fits = omega arith; unclosed = inl u })
+pub goes_string : (max_depth : ℕ) (x : List ℕ) → GoesString x → GoesValue max_depth x
+goes_string max_depth x (inl b) = inl (string_part max_depth x b)
+goes_string max_depth x (inr u) = inr (record { lists = []; fits = omega arith; unclosed = inl u })
 
-pub goes_hint : (room : ℕ) (inside x : List ℕ) → AreSpaces inside → GoesString x → GoesValue room (91 ∷ (inside ++ x))
-goes_hint room inside x s (inl b) = inl (hint_part room inside x s b)
-goes_hint room inside x s (inr u) = inr (record {
+pub goes_hint : (max_depth : ℕ) (inside x : List ℕ) → AreSpaces inside → GoesString x → GoesValue max_depth (91 ∷ (inside ++ x))
+goes_hint max_depth inside x s (inl b) = inl (hint_part max_depth inside x s b)
+goes_hint max_depth inside x s (inr u) = inr (record {
   lists = [];
   fits = omega arith;
   unclosed = inr (inl (record { inside = inside; last = x; spelled = refl; spaces_inside = s; unclosed = u }));
 })
 
-pub goes_body : (room : ℕ) (as_token : Bool) (hint inside hint_text behind_hint behind x : List ℕ) → AreSpaces inside → Simple as_token hint_text hint
+pub goes_body : (max_depth : ℕ) (as_token : Bool) (hint inside hint_text behind_hint behind x : List ℕ) → AreSpaces inside
+    → Simple as_token hint_text hint
     → AreSpaces behind_hint → AreSpaces behind → GoesString x
-    → GoesValue room (91 ∷ (inside ++ (hint_text ++ (behind_hint ++ 93 ∷ (behind ++ x)))))
-goes_body room as_token hint inside hint_text behind_hint behind x s m t u (inl b) = inl (body_part room as_token hint inside hint_text behind_hint behind x s m t u b)
-goes_body room as_token hint inside hint_text behind_hint behind x s m t u (inr k) =
+    → GoesValue max_depth (91 ∷ (inside ++ (hint_text ++ (behind_hint ++ 93 ∷ (behind ++ x)))))
+goes_body max_depth as_token hint inside hint_text behind_hint behind x s m t u (inl b) = inl (body_part max_depth as_token hint inside hint_text behind_hint behind x s m t u b)
+goes_body max_depth as_token hint inside hint_text behind_hint behind x s m t u (inr k) =
     let unclosed_here = hinted_unclosed as_token hint inside hint_text behind_hint behind x s m t u k in
     inr (record { lists = []; fits = omega arith; unclosed = inr (inr unclosed_here) })
 
-pub goes_list : (room less : ℕ) (x : List ℕ) → suc less ≤ room → GoesMembers less x → GoesValue room (40 ∷ x)
-goes_list room less x le (inl b) = inl (list_part room less x le b)
-goes_list room less x le (inr u) = inr (list_unclosed room less x le u)
+pub goes_list : (max_depth less : ℕ) (x : List ℕ) → suc less ≤ max_depth → GoesMembers less x → GoesValue max_depth (40 ∷ x)
+goes_list max_depth less x le (inl b) = inl (list_part max_depth less x le b)
+goes_list max_depth less x le (inr u) = inr (list_unclosed max_depth less x le u)
 
-pub goes_member : (room : ℕ) (x : List ℕ) → GoesValue room x → GoesMembers room x
-goes_member room x (inl b) = inl (member_part room x b)
-goes_member room x (inr u) =
+pub goes_member : (max_depth : ℕ) (x : List ℕ) → GoesValue max_depth x → GoesMembers max_depth x
+goes_member max_depth x (inl b) = inl (member_part max_depth x b)
+goes_member max_depth x (inr u) =
     inr (record { items = none; lists = u.lists; few = omega arith; fits = u.fits; unclosed = ([], x, refl, tt, u.unclosed) })
 
-pub goes_spaces : (room : ℕ) (s x : List ℕ) → AreSpaces s → GoesMembers room x → GoesMembers room (s ++ x)
-goes_spaces room s x h (inl b) = inl (spaces_part room s x h b)
-goes_spaces room s x h (inr u) = inr (search (rules, spaces_open))
+pub goes_spaces : (max_depth : ℕ) (s x : List ℕ) → AreSpaces s → GoesMembers max_depth x → GoesMembers max_depth (s ++ x)
+goes_spaces max_depth s x h (inl b) = inl (spaces_part max_depth s x h b)
+goes_spaces max_depth s x h (inr u) = inr (search (rules, spaces_open))
 
-pub goes_first : (room : ℕ) (ends : Bool) (first : List ℕ) (v : Value) (x y : List ℕ) → SpellsAs ends first v → depth v ≤ room → IsApart ends (x ++ y)
-    → GoesMembers room x → GoesMembers room (first ++ x)
-goes_first room ends first v x y m deep apart (inl b) = inl (first_part room ends first v x y m deep apart b)
-goes_first room ends first v x y m deep apart (inr u) = inr (first_unclosed room ends first v x y m deep apart u)
+pub goes_first : (max_depth : ℕ) (ends : Bool) (first : List ℕ) (v : Value) (x y : List ℕ) → SpellsAs ends first v → depth v ≤ max_depth
+    → IsApart ends (x ++ y)
+    → GoesMembers max_depth x → GoesMembers max_depth (first ++ x)
+goes_first max_depth ends first v x y m deep apart (inl b) = inl (first_part max_depth ends first v x y m deep apart b)
+goes_first max_depth ends first v x y m deep apart (inr u) = inr (first_unclosed max_depth ends first v x y m deep apart u)

@@ -155,7 +155,7 @@ member_printed Before Printed vs us v behind rest tail member h is e p = record 
 
 -- a value was read and appended to the output
 abbrev pub IsConverted : ℕ → List ℕ → ℕ → Form → List ℕ → List ℕ → ℕ → Type 0
-IsConverted room text at form old new to = (v : Value) × ReadsValue room text at v to × (new ≡ old ++ written form v)
+IsConverted max_depth text at form old new to = (v : Value) × ReadsValue max_depth text at v to × (new ≡ old ++ written form v)
 
 -- the canonical text of a value within the limits spells it
 pub canonical_within : (octets : List ℕ) (v : Value) → IsWithinLimits v → octets ≡ canon v → IsSpelledWithin octets v
@@ -163,9 +163,9 @@ canonical_within octets v h e = search (rules, canonical_spelled)
 
 -- ---- strings
 
-pub string_converted : (room : ℕ) (text : List ℕ) (at to : ℕ) (form : Form) (octets old new : List ℕ) → ReadsString text at octets to
-    → new ≡ old ++ written_string form octets → IsConverted room text at form old new to
-string_converted room text at to form octets old new r e = (
+pub string_converted : (max_depth : ℕ) (text : List ℕ) (at to : ℕ) (form : Form) (octets old new : List ℕ) → ReadsString text at octets to
+    → new ≡ old ++ written_string form octets → IsConverted max_depth text at form old new to
+string_converted max_depth text at to form octets old new r e = (
   string None octets,
   record {
     stands = record {
@@ -186,9 +186,9 @@ string_converted room text at to form octets old new r e = (
     same Canonical = refl
     same Advanced = refl
 
--- what was read without lists is also read with room for any number of them
-pub roomier : (room : ℕ) (text : List ℕ) (at to : ℕ) (form : Form) (old new : List ℕ) → IsConverted 0 text at form old new to → IsConverted room text at form old new to
-roomier room text at to form old new p = search rules
+-- what was read without lists is also read where any number of them may be open
+pub deeper : (max_depth : ℕ) (text : List ℕ) (at to : ℕ) (form : Form) (old new : List ℕ) → IsConverted 0 text at form old new to → IsConverted max_depth text at form old new to
+deeper max_depth text at to form old new p = search rules
 
 -- ---- members
 
@@ -205,17 +205,17 @@ written_more Canonical vs v = canons-append vs (v ∷ []) ∙ ap (λ t. canons (
 written_more Advanced vs v = search (rules, adv_all-append, append-nil)
 
 -- Members were read from one offset up to another and written, and `next` is to be written before the next member.
-pub record HasConverted (room : ℕ) (text : List ℕ) (at i : ℕ) (form : Form) (old new next : List ℕ) : Type 0 where
+pub record HasConverted (max_depth : ℕ) (text : List ℕ) (at i : ℕ) (form : Form) (old new next : List ℕ) : Type 0 where
   pub items : List Value
-  pub read : HasMembers room text at i (values items)
+  pub read : HasMembers max_depth text at i (values items)
   pub is_written : new ≡ old ++ written_all form 0 (values items)
   pub next_is : next ≡ gap_of form (length items)
 
-pub none_converted : (room : ℕ) (text : List ℕ) (at i : ℕ) (form : Form) (out next : List ℕ) → Skips text at i → next ≡ []
-    → HasConverted room text at i form out out next
-none_converted room text at i form out next s e = record {
+pub none_converted : (max_depth : ℕ) (text : List ℕ) (at i : ℕ) (form : Form) (out next : List ℕ) → Skips text at i → next ≡ []
+    → HasConverted max_depth text at i form out out next
+none_converted max_depth text at i form out next s e = record {
   items = [];
-  read = no_members room text at i s;
+  read = no_members max_depth text at i s;
   is_written = sym (append-nil out) ∙ ap (λ t. out ++ t) (nothing form);
   next_is = e ∙ none_yet form;
 }
@@ -228,19 +228,19 @@ none_converted room text at i form out next s e = record {
     none_yet Canonical = refl
     none_yet Advanced = refl
 
-pub more_converted : (room : ℕ) (text : List ℕ) (at i c to then_at : ℕ) (form : Form) (old mid spaced new next later : List ℕ)
-    → HasConverted room text at i form old mid next → StandsAt text i c → (c ≡ 41 → ⊥) → spaced ≡ mid ++ next
-    → IsConverted room text i form spaced new to → later ≡ gap_of form 1 → Skips text to then_at
-    → HasConverted room text at then_at form old new later
-more_converted room text at i c to then_at form old mid spaced new next later h stands other e p g s =
+pub more_converted : (max_depth : ℕ) (text : List ℕ) (at i c to then_at : ℕ) (form : Form) (old mid spaced new next later : List ℕ)
+    → HasConverted max_depth text at i form old mid next → StandsAt text i c → (c ≡ 41 → ⊥) → spaced ≡ mid ++ next
+    → IsConverted max_depth text i form spaced new to → later ≡ gap_of form 1 → Skips text to then_at
+    → HasConverted max_depth text at then_at form old new later
+more_converted max_depth text at i c to then_at form old mid spaced new next later h stands other e p g s =
     let v = p.0 in
     let vs = h.items in
     record {
       items = vs ++ v ∷ [];
       read =
-          subst (λ us. HasMembers room text at then_at (values us)) (map-same (vs ++ v ∷ []))
-          (more_members same vs (vs ++ v ∷ []) v room text at i c to then_at
-          (subst (λ us. HasMembers room text at i (values us)) (sym (map-same vs)) h.read) stands other p.1 refl s);
+          subst (λ us. HasMembers max_depth text at then_at (values us)) (map-same (vs ++ v ∷ []))
+          (more_members same vs (vs ++ v ∷ []) v max_depth text at i c to then_at
+          (subst (λ us. HasMembers max_depth text at i (values us)) (sym (map-same vs)) h.read) stands other p.1 refl s);
       is_written = rw (p.2, e, h.next_is, h.is_written, written_more form vs v) (simp append_assoc refl);
       next_is = g ∙ past_first form (length vs) ∙ ap (gap_of form) (one_more vs);
     }
@@ -252,14 +252,15 @@ more_converted room text at i c to then_at form old mid spaced new next later h 
     one_more : (us : List Value) → suc (length us) ≡ length (us ++ p.0 ∷ [])
     one_more us = omega (arith, length-append us (p.0 ∷ []))
 
-pub members_converted : (room : ℕ) (text : List ℕ) (at i c : ℕ) (form : Form) (old mid new next : List ℕ) → HasConverted room text at i form old mid next
+pub members_converted : (max_depth : ℕ) (text : List ℕ) (at i c : ℕ) (form : Form) (old mid new next : List ℕ) → HasConverted max_depth text at i form old mid next
     → StandsAt text i c → c ≡ 41 → new ≡ mid ++ 41 ∷ []
-    → (vs : Values) × ReadsMembers room text at vs (i + 1) × (new ≡ old ++ (written_all form 0 vs ++ 41 ∷ []))
-members_converted room text at i c form old mid new next h stands e f = search (rules, members_end, append_assoc)
+    → (vs : Values) × ReadsMembers max_depth text at vs (i + 1) × (new ≡ old ++ (written_all form 0 vs ++ 41 ∷ []))
+members_converted max_depth text at i c form old mid new next h stands e f = search (rules, members_end, append_assoc)
 
-pub list_converted : (room less : ℕ) (text : List ℕ) (at to : ℕ) (form : Form) (old opened new : List ℕ) → StandsAt text at 40 → suc less ≤ room
+pub list_converted : (max_depth less : ℕ) (text : List ℕ) (at to : ℕ) (form : Form) (old opened new : List ℕ) → StandsAt text at 40
+    → suc less ≤ max_depth
     → opened ≡ old ++ 40 ∷ []
     → (vs : Values) × ReadsMembers less text (at + 1) vs to × (new ≡ opened ++ (written_all form 0 vs ++ 41 ∷ []))
-    → IsConverted room text at form old new to
-list_converted room less text at to form old opened new stands le e p =
-    search (rules, list_read room less text at to p.0 stands le p.1, append_assoc old (40 ∷ []) (written_all form 0 p.0 ++ 41 ∷ []))
+    → IsConverted max_depth text at form old new to
+list_converted max_depth less text at to form old opened new stands le e p =
+    search (rules, list_read max_depth less text at to p.0 stands le p.1, append_assoc old (40 ∷ []) (written_all form 0 p.0 ++ 41 ∷ []))

@@ -222,7 +222,7 @@ pub hint_missed : (text : List ℕ) (at begin : ℕ) (fault : FormFault) → Sta
     → RefusesPart (ValueStands at) text at fault
 hint_missed text at begin fault opens s h = refused_later (ValueStands at) (StringStands begin) text at begin fault (omega (arith, s.ordered)) (λ other n a le w.
     let o = stands_too text other n at 91 a (omega (arith, s.ordered)) opens in
-    let v = hinted_at w.room other at w.value w.rest o w.stands in
+    let v = hinted_at w.max_depth other at w.value w.rest o w.stands in
     record { octets = v.hint; rest = behind_hint other at w.rest v; stands = hint_at other at begin w.rest v o (skips_too text other n (at + 1) begin a le s) }) h
 
 pub closing_missed : (text : List ℕ) (at begin to close c : ℕ) (read : List ℕ) → StandsAt text at 91 → Skips text (at + 1) begin → ReadsString text begin read to
@@ -230,7 +230,7 @@ pub closing_missed : (text : List ℕ) (at begin to close c : ℕ) (read : List 
 closing_missed text at begin to close c read opens s r t stands apart =
     stops_here (ValueStands at) text at close (omega (arith, s.ordered, r.forward, t.ordered)) stands.within (λ other a w.
     let o = stands_too text other close at 91 a (omega (arith, s.ordered, r.forward, t.ordered)) opens in
-    let v = hinted_at w.room other at w.value w.rest o w.stands in
+    let v = hinted_at w.max_depth other at w.value w.rest o w.stands in
     let e = closing_at other at begin to close w.rest read v o (skips_too text other close (at + 1) begin a (omega (arith, r.forward, t.ordered)) s)
     (string_too text other close begin to read a (omega (arith, t.ordered)) r) (skips_too text other close to close a (omega arith) t) in
     apart (octet_is other close c 93 _ (stands_too text other close close c a (omega arith) stands) e))
@@ -241,7 +241,7 @@ pub body_missed : (text : List ℕ) (at begin to close next : ℕ) (read : List 
 body_missed text at begin to close next read fault opens s r t stands u h =
     refused_later (ValueStands at) (StringStands next) text at next fault (omega (arith, s.ordered, r.forward, t.ordered, u.ordered)) (λ other n a le w.
     let o = stands_too text other n at 91 a (omega (arith, s.ordered, r.forward, t.ordered, u.ordered)) opens in
-    let v = hinted_at w.room other at w.value w.rest o w.stands in
+    let v = hinted_at w.max_depth other at w.value w.rest o w.stands in
     let e = closing_at other at begin to close w.rest read v o (skips_too text other n (at + 1) begin a (omega (arith, r.forward, t.ordered, u.ordered)) s)
     (string_too text other n begin to read a (omega (arith, t.ordered, u.ordered)) r) (skips_too text other n to close a (omega (arith, u.ordered)) t) in
     let c = stands_too text other n close 93 a (omega (arith, u.ordered)) stands in
@@ -263,20 +263,20 @@ pub string_missed : (text : List ℕ) (at c : ℕ) (fault : FormFault) → Stand
     → RefusesPart (StringStands at) text at fault → IsValueFault (ValueStands at) text at fault
 string_missed text at c fault opens group hinted h =
     later_value (ValueStands at) (StringStands at) text at at fault (omega arith) (λ other n a le w.
-    let s = string_at w.room other at c w.value w.rest (stands_too text other n at c a le opens) group hinted w.stands in
+    let s = string_at w.max_depth other at c w.value w.rest (stands_too text other n at c a le opens) group hinted w.stands in
     record { octets = s.0; rest = w.rest; stands = s.1 }) (part_fault (StringStands at) text at fault h)
 
 pub members_missed : (text : List ℕ) (at : ℕ) (fault : FormFault) → StandsAt text at 40
     → IsValueFault (MembersStand (at + 1)) text (at + 1) fault → IsValueFault (ValueStands at) text at fault
 members_missed text at fault opens h =
     later_value (ValueStands at) (MembersStand (at + 1)) text at (at + 1) fault (omega arith) (λ other n a le w.
-    let m = inside_list w.room w.room other at w.value w.rest (stands_too text other n at 40 a (omega arith) opens) (omega arith) w.stands in
-    record { room = w.room; items = m.0; rest = w.rest; stands = m.2 }) h
+    let m = inside_list w.max_depth w.max_depth other at w.value w.rest (stands_too text other n at 40 a (omega arith) opens) (omega arith) w.stands in
+    record { max_depth = w.max_depth; items = m.0; rest = w.rest; stands = m.2 }) h
 
-pub member_missed : (room : ℕ) (text : List ℕ) (at i c : ℕ) (vs : Values) (fault : FormFault) → HasMembers room text at i vs → StandsAt text i c → (c ≡ 41 → ⊥)
+pub member_missed : (max_depth : ℕ) (text : List ℕ) (at i c : ℕ) (vs : Values) (fault : FormFault) → HasMembers max_depth text at i vs → StandsAt text i c → (c ≡ 41 → ⊥)
     → IsValueFault (ValueStands i) text i fault → IsValueFault (MembersStand at) text at fault
-member_missed room text at i c vs fault m stands apart h =
+member_missed max_depth text at i c vs fault m stands apart h =
     later_value (MembersStand at) (ValueStands i) text at i fault m.ordered (λ other n a le w.
-    let p = m.elsewhere other n a le w.room w.items w.rest w.stands in
-    let f = filled_at w.room other i c p.0 w.rest (stands_too text other n i c a le stands) apart (visible_too text other n i a le m.visible) p.1 in
-    record { room = w.room; value = f.first; rest = f.behind ++ 41 ∷ w.rest; stands = f.stands }) h
+    let p = m.elsewhere other n a le w.max_depth w.items w.rest w.stands in
+    let f = filled_at w.max_depth other i c p.0 w.rest (stands_too text other n i c a le stands) apart (visible_too text other n i a le m.visible) p.1 in
+    record { max_depth = w.max_depth; value = f.first; rest = f.behind ++ 41 ∷ w.rest; stands = f.stands }) h

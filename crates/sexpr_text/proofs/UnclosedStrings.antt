@@ -207,22 +207,22 @@ closing_behind P Q U V pre x t k e on begin = record {
   begins = begin k.begins;
 }
 
-closing_atom : (room : ℕ) (t : List ℕ) → IsUnclosedAtom t → Closing (IsValuePart room) IsUnclosedAtom t
-closing_atom room t (inl h) =
-    closing_behind IsStringPart (IsValuePart room) IsUnclosedString IsUnclosedAtom [] t t (closing_string t h) refl (λ m i u. inl u) (λ b. string_part room _ b)
-closing_atom room t (inr (inl h)) =
+closing_atom : (max_depth : ℕ) (t : List ℕ) → IsUnclosedAtom t → Closing (IsValuePart max_depth) IsUnclosedAtom t
+closing_atom max_depth t (inl h) =
+    closing_behind IsStringPart (IsValuePart max_depth) IsUnclosedString IsUnclosedAtom [] t t (closing_string t h) refl (λ m i u. inl u) (λ b. string_part max_depth _ b)
+closing_atom max_depth t (inr (inl h)) =
     let k = closing_string h.last h.unclosed in
-    closing_behind IsStringPart (IsValuePart room) IsUnclosedString IsUnclosedAtom (91 ∷ h.inside) h.last t k h.spelled
+    closing_behind IsStringPart (IsValuePart max_depth) IsUnclosedString IsUnclosedAtom (91 ∷ h.inside) h.last t k h.spelled
     (λ m i u. inr (inl (record { inside = h.inside; last = k.front ++ m; spelled = refl; spaces_inside = h.spaces_inside; unclosed = u })))
-    (λ b. hint_part room h.inside k.front h.spaces_inside b)
-closing_atom room t (inr (inr h)) =
+    (λ b. hint_part max_depth h.inside k.front h.spaces_inside b)
+closing_atom max_depth t (inr (inr h)) =
     let k = closing_string h.last h.unclosed in
     let pre : List ℕ = 91 ∷ (h.inside ++ (h.hint_text ++ (h.behind_hint ++ 93 ∷ h.behind))) in
     let same : (y : List ℕ) → 91 ∷ (h.inside ++ (h.hint_text ++ (h.behind_hint ++ 93 ∷ (h.behind ++ y)))) ≡ pre ++ y = λ y. simp append_assoc refl in
-    closing_behind IsStringPart (IsValuePart room) IsUnclosedString IsUnclosedAtom pre h.last t k (h.spelled ∙ same h.last)
+    closing_behind IsStringPart (IsValuePart max_depth) IsUnclosedString IsUnclosedAtom pre h.last t k (h.spelled ∙ same h.last)
     (λ m i u. subst IsUnclosedAtom (same (k.front ++ m)) (inr (inr (hinted_unclosed h.as_token h.hint h.inside h.hint_text
     h.behind_hint h.behind (k.front ++ m) h.spaces_inside h.hint_meant h.spaces_behind_hint h.spaces_behind u))))
-    (λ b. subst (Begins (IsValuePart room)) (same k.front) (body_part room h.as_token h.hint h.inside h.hint_text h.behind_hint h.behind k.front
+    (λ b. subst (Begins (IsValuePart max_depth)) (same k.front) (body_part max_depth h.as_token h.hint h.inside h.hint_text h.behind_hint h.behind k.front
     h.spaces_inside h.hint_meant h.spaces_behind_hint h.spaces_behind b))
 
 mark_apart : (c : ℕ) → is_mark c ≡ true → is_token_octet c ≡ false
@@ -249,25 +249,26 @@ closing_members less U on (more v vs) t few h =
     (λ b. subst (Begins (IsMembersPart less)) (sym (append_assoc h.0 h.2 k.front))
     (spaces_part less h.0 (h.2 ++ k.front) h.5 (first_part less h.1 h.2 v k.front k.marked h.6 (omega arith) apart b)))
 
-closing_value : (room : ℕ) (lists : List Values) (t : List ℕ) → depth_open lists ≤ room → UnclosedValue lists t → Closing (IsValuePart room) (UnclosedValue lists) t
-closing_value room [] t le h = closing_atom room t h
-closing_value room (vs ∷ inner) t le h =
+closing_value : (max_depth : ℕ) (lists : List Values) (t : List ℕ) → depth_open lists ≤ max_depth → UnclosedValue lists t → Closing (IsValuePart max_depth) (UnclosedValue lists) t
+closing_value max_depth [] t le h = closing_atom max_depth t h
+closing_value max_depth (vs ∷ inner) t le h =
     let less : ℕ = max (depths vs) (depth_open inner) in
     let k = closing_members less (UnclosedValue inner) (λ s u. closing_value less inner s (omega arith) u) vs h.0 (omega arith) h.2 in
-    closing_behind (IsMembersPart less) (IsValuePart room) (UnclosedMembers (UnclosedValue inner) vs) (UnclosedValue (vs ∷ inner)) (40 ∷ []) h.0 t k h.1
-    (λ m i u. (k.front ++ m, refl, u)) (λ b. list_part room less k.front le b)
+    closing_behind (IsMembersPart less) (IsValuePart max_depth) (UnclosedMembers (UnclosedValue inner) vs) (UnclosedValue (vs ∷ inner)) (40 ∷ []) h.0 t k h.1
+    (λ m i u. (k.front ++ m, refl, u)) (λ b. list_part max_depth less k.front le b)
 
 -- ---- whole texts
 
-pub value_begins : (room : ℕ) (before x : List ℕ) → AreSpaces before → Begins (IsValuePart room) x → Begins (IsSpellingWithin room) (before ++ x)
-value_begins room before x s b = search (rules, append_assoc, append-nil)
+pub value_begins : (max_depth : ℕ) (before x : List ℕ) → AreSpaces before → Begins (IsValuePart max_depth) x
+    → Begins (IsSpellingWithin max_depth) (before ++ x)
+value_begins max_depth before x s b = search (rules, append_assoc, append-nil)
 
-closing_text : (room : ℕ) (t : List ℕ) → IsUnclosedText room t → Closing (IsSpellingWithin room) (IsUnclosedText room) t
-closing_text room t h =
-    let k = closing_value room h.lists h.value h.fits h.unclosed in
-    closing_behind (IsValuePart room) (IsSpellingWithin room) (UnclosedValue h.lists) (IsUnclosedText room) h.before h.value t k h.parts
+closing_text : (max_depth : ℕ) (t : List ℕ) → IsUnclosedText max_depth t → Closing (IsSpellingWithin max_depth) (IsUnclosedText max_depth) t
+closing_text max_depth t h =
+    let k = closing_value max_depth h.lists h.value h.fits h.unclosed in
+    closing_behind (IsValuePart max_depth) (IsSpellingWithin max_depth) (UnclosedValue h.lists) (IsUnclosedText max_depth) h.before h.value t k h.parts
     (λ m i u. record { before = h.before; value = k.front ++ m; lists = h.lists; parts = refl; spaces_before = h.spaces_before; fits = h.fits; unclosed = u })
-    (λ b. value_begins room h.before k.front h.spaces_before b)
+    (λ b. value_begins max_depth h.before k.front h.spaces_before b)
 
 -- ---- if octets may continue, so may each beginning of them
 
@@ -283,27 +284,27 @@ unclosed_front c cs y (inl h) = inl (record {
 unclosed_front c cs y (inr (inl h)) = search (rules, head_is, all_front, tail_is)
 unclosed_front c cs y (inr (inr h)) = search (rules, head_is, all_front, tail_is)
 
-cut_in_string : (room : ℕ) (x y front b : List ℕ) → IsUnclosed b → ((m : List ℕ) → IsUnclosed m → IsUnclosedText room (front ++ m)) → Begins (IsSpellingWithin room) front
-    → (between : List ℕ) → x ≡ front ++ between → between ++ y ≡ b → GoesOnWithin room x
-cut_in_string room x y front b u fill begins [] e f = inl (subst (Begins (IsSpellingWithin room)) (sym (e ∙ append-nil front)) begins)
-cut_in_string room x y front b u fill begins (c ∷ cs) e f =
-    inr (subst (IsUnclosedText room) (sym e) (fill (c ∷ cs) (unclosed_front c cs y (subst IsUnclosed (sym f) u))))
+cut_in_string : (max_depth : ℕ) (x y front b : List ℕ) → IsUnclosed b → ((m : List ℕ) → IsUnclosed m → IsUnclosedText max_depth (front ++ m)) → Begins (IsSpellingWithin max_depth) front
+    → (between : List ℕ) → x ≡ front ++ between → between ++ y ≡ b → GoesOnWithin max_depth x
+cut_in_string max_depth x y front b u fill begins [] e f = inl (subst (Begins (IsSpellingWithin max_depth)) (sym (e ∙ append-nil front)) begins)
+cut_in_string max_depth x y front b u fill begins (c ∷ cs) e f =
+    inr (subst (IsUnclosedText max_depth) (sym e) (fill (c ∷ cs) (unclosed_front c cs y (subst IsUnclosed (sym f) u))))
 
-pub goes_front : (room : ℕ) (x y : List ℕ) → GoesOnWithin room (x ++ y) → GoesOnWithin room x
-goes_front room x y (inl b) = inl (begins_front (IsSpellingWithin room) x y b)
-goes_front room x y (inr u) =
-    let k = closing_text room (x ++ y) u in
+pub goes_front : (max_depth : ℕ) (x y : List ℕ) → GoesOnWithin max_depth (x ++ y) → GoesOnWithin max_depth x
+goes_front max_depth x y (inl b) = inl (begins_front (IsSpellingWithin max_depth) x y b)
+goes_front max_depth x y (inr u) =
+    let k = closing_text max_depth (x ++ y) u in
     elim (two_cuts x y k.front k.marked k.spelled) [
-      | inl o ↦ cut_in_string room x y k.front k.marked k.meant k.fill k.begins o.0 o.1 o.2
-      | inr w ↦ inl (begins_front (IsSpellingWithin room) x w.0 (subst (Begins (IsSpellingWithin room)) w.1 k.begins))
+      | inl o ↦ cut_in_string max_depth x y k.front k.marked k.meant k.fill k.begins o.0 o.1 o.2
+      | inr w ↦ inl (begins_front (IsSpellingWithin max_depth) x w.0 (subst (Begins (IsSpellingWithin max_depth)) w.1 k.begins))
     ]
 
-any_room : (room : ℕ) (x : List ℕ) → IsSpellingWithin room x → IsSpelling x
-any_room room x s = record { value = s.value; spelled = s.spelled }
+any_depth : (max_depth : ℕ) (x : List ℕ) → IsSpellingWithin max_depth x → IsSpelling x
+any_depth max_depth x s = record { value = s.value; spelled = s.spelled }
 
-pub goes_anyhow : (room : ℕ) (x : List ℕ) → GoesOnWithin room x → GoesOn x
-goes_anyhow room x (inl b) = inl (record { rest = b.rest; whole = any_room room (x ++ b.rest) b.whole })
-goes_anyhow room x (inr u) = inr (room, u)
+pub goes_anyhow : (max_depth : ℕ) (x : List ℕ) → GoesOnWithin max_depth x → GoesOn x
+goes_anyhow max_depth x (inl b) = inl (record { rest = b.rest; whole = any_depth max_depth (x ++ b.rest) b.whole })
+goes_anyhow max_depth x (inr u) = inr (max_depth, u)
 
 pub goes_on_front : (x y : List ℕ) → GoesOn (x ++ y) → GoesOn x
 goes_on_front x y (inl b) = inl (begins_front IsSpelling x y b)

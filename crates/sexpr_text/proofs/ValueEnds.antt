@@ -19,16 +19,16 @@ stops_other T text at k other a s w = search (rules, take_at)
 
 -- ---- parts in which lists may open
 
-ends_later : (room less : ℕ) (G H U V W X : ℕ → List ℕ → Type 0) (text front : List ℕ) (at i : ℕ) (fault : FormFault) → at ≤ i → drop at text ≡ front ++ drop i text
-    → ((part y : List ℕ) → drop i text ≡ part ++ y → G less part → H room (front ++ part))
-    → ((part y : List ℕ) → drop i text ≡ part ++ y → G (suc less) part → H (suc room) (front ++ part))
-    → ((k : ℕ) → i ≤ k → StopsAt (X less) text i k → StopsAt (From (U less) i) text i k → StopsAt (W room) text at k × StopsAt (From (V room) at) text at k)
+ends_later : (max_depth less : ℕ) (G H U V W X : ℕ → List ℕ → Type 0) (text front : List ℕ) (at i : ℕ) (fault : FormFault) → at ≤ i → drop at text ≡ front ++ drop i text
+    → ((part y : List ℕ) → drop i text ≡ part ++ y → G less part → H max_depth (front ++ part))
+    → ((part y : List ℕ) → drop i text ≡ part ++ y → G (suc less) part → H (suc max_depth) (front ++ part))
+    → ((k : ℕ) → i ≤ k → StopsAt (X less) text i k → StopsAt (From (U less) i) text i k → StopsAt (W max_depth) text at k × StopsAt (From (V max_depth) at) text at k)
     → ((k : ℕ) → fault ≡ Bad k → i ≤ k → StopsAt (From (Anywhere U) i) text i k → StopsAt (From (Anywhere V) at) text at k)
-    → IsValueEnd less G X U text i fault → IsValueEnd room H W V text at fault
-ends_later room less G H U V W X text front at i TooDeep le e on deep stops any h = search (rules, begun_later)
-ends_later room less G H U V W X text front at i Short le e on deep stops any h = search (rules, begun_later)
-ends_later room less G H U V W X text front at i (Bad k) le e on deep stops any h = search (rules, begun_later)
-ends_later room less G H U V W X text front at i _ le e on deep stops any h = h
+    → IsValueEnd less G X U text i fault → IsValueEnd max_depth H W V text at fault
+ends_later max_depth less G H U V W X text front at i TooDeep le e on deep stops any h = search (rules, begun_later)
+ends_later max_depth less G H U V W X text front at i Short le e on deep stops any h = search (rules, begun_later)
+ends_later max_depth less G H U V W X text front at i (Bad k) le e on deep stops any h = search (rules, begun_later)
+ends_later max_depth less G H U V W X text front at i _ le e on deep stops any h = h
 
 -- ---- strings
 
@@ -37,40 +37,40 @@ string_open : (text : List ℕ) (at c : ℕ) → StandsAt text at c → (c ≡ 4
 string_open text at c s group hinted [] (inl u) = u
 string_open text at c s group hinted lists u = search (rules, head_is)
 
-pub none_value : (room : ℕ) → GoesValue room []
-none_value room = goes_string room [] none_string
+pub none_value : (max_depth : ℕ) → GoesValue max_depth []
+none_value max_depth = goes_string max_depth [] none_string
 
-string_goes : (room : ℕ) (text : List ℕ) (at to : ℕ) → Begun GoesString text at to → Begun (GoesValue room) text at to
-string_goes room text at to b = record { part = b.part; spelled = b.spelled; goes = goes_string room b.part b.goes; ordered = b.ordered; within = b.within }
+string_goes : (max_depth : ℕ) (text : List ℕ) (at to : ℕ) → Begun GoesString text at to → Begun (GoesValue max_depth) text at to
+string_goes max_depth text at to b = record { part = b.part; spelled = b.spelled; goes = goes_string max_depth b.part b.goes; ordered = b.ordered; within = b.within }
 
-pub string_ends : (room : ℕ) (text : List ℕ) (at c : ℕ) (fault : FormFault) → StandsAt text at c → (c ≡ 40 → ⊥) → (c ≡ 91 → ⊥)
-    → IsPartEnd GoesString IsUnclosedString text at fault → IsValueEnd room GoesValue (λ most. ValueStandsIn most at) IsUnclosedValue text at fault
-string_ends room text at c Short s group hinted h = string_goes room text at (length text) h
-string_ends room text at c (Bad k) s group hinted h = (
-  string_goes room text at k h.0,
+pub string_ends : (max_depth : ℕ) (text : List ℕ) (at c : ℕ) (fault : FormFault) → StandsAt text at c → (c ≡ 40 → ⊥) → (c ≡ 91 → ⊥)
+    → IsPartEnd GoesString IsUnclosedString text at fault → IsValueEnd max_depth GoesValue (λ limit. ValueStandsIn limit at) IsUnclosedValue text at fault
+string_ends max_depth text at c Short s group hinted h = string_goes max_depth text at (length text) h
+string_ends max_depth text at c (Bad k) s group hinted h = (
+  string_goes max_depth text at k h.0,
   stops_later (From (Anywhere IsUnclosedValue) at) (From IsUnclosedString at) text at at k (omega arith) (λ other n a le u.
       string_open other at c (stands_too text other n at c a le s) group hinted u.1.lists u.1.unclosed) h.1,
 )
-string_ends room text at c _ s group hinted h = search rules
+string_ends max_depth text at c _ s group hinted h = search rules
 
 -- a value in which no list opens
-pub flat_ends : (room : ℕ) (text : List ℕ) (at : ℕ) (fault : FormFault) → ((most : ℕ) → IsPartEnd (GoesValue most) (Anywhere IsUnclosedValue) text at fault)
-    → IsValueEnd room GoesValue (λ most. ValueStandsIn most at) IsUnclosedValue text at fault
-flat_ends room text at TooDeep h = absurd (h room)
-flat_ends room text at Memory h = tt
-flat_ends room text at _ h = h room
+pub flat_ends : (max_depth : ℕ) (text : List ℕ) (at : ℕ) (fault : FormFault) → ((limit : ℕ) → IsPartEnd (GoesValue limit) (Anywhere IsUnclosedValue) text at fault)
+    → IsValueEnd max_depth GoesValue (λ limit. ValueStandsIn limit at) IsUnclosedValue text at fault
+flat_ends max_depth text at TooDeep h = absurd (h max_depth)
+flat_ends max_depth text at Memory h = tt
+flat_ends max_depth text at _ h = h max_depth
 
 -- ---- lists
 
 -- what is not closed and begins with a parenthesis is a list
-list_open : (room : ℕ) (text : List ℕ) (at : ℕ) → StandsAt text at 40 → (lists : List Values) → depth_open lists ≤ room → UnclosedValue lists (drop at text)
-    → (0 < room) × AreUnclosedMembers (room - 1) (drop (at + 1) text)
-list_open room text at s [] le (inl u) = absurd (unclosed_string_differs (drop at text) (drop (at + 1) text) 40 u refl s.spelled)
-list_open room text at s [] le (inr (inl u)) = let q = head_is 40 91 (drop (at + 1) text) _ (sym s.spelled ∙ u.spelled) in absurd (omega (arith, q))
-list_open room text at s [] le (inr (inr u)) = let q = head_is 40 91 (drop (at + 1) text) _ (sym s.spelled ∙ u.spelled) in absurd (omega (arith, q))
-list_open room text at s (vs ∷ inner) le u =
+list_open : (max_depth : ℕ) (text : List ℕ) (at : ℕ) → StandsAt text at 40 → (lists : List Values) → depth_open lists ≤ max_depth → UnclosedValue lists (drop at text)
+    → (0 < max_depth) × AreUnclosedMembers (max_depth - 1) (drop (at + 1) text)
+list_open max_depth text at s [] le (inl u) = absurd (unclosed_string_differs (drop at text) (drop (at + 1) text) 40 u refl s.spelled)
+list_open max_depth text at s [] le (inr (inl u)) = let q = head_is 40 91 (drop (at + 1) text) _ (sym s.spelled ∙ u.spelled) in absurd (omega (arith, q))
+list_open max_depth text at s [] le (inr (inr u)) = let q = head_is 40 91 (drop (at + 1) text) _ (sym s.spelled ∙ u.spelled) in absurd (omega (arith, q))
+list_open max_depth text at s (vs ∷ inner) le u =
     let e : drop (at + 1) text ≡ u.0 = tail_is 40 40 (drop (at + 1) text) u.0 (sym s.spelled ∙ u.1) in
-    let deep : suc (max (depths vs) (depth_open inner)) ≤ room = le in (
+    let deep : suc (max (depths vs) (depth_open inner)) ≤ max_depth = le in (
       omega arith,
       record {
         items = vs;
@@ -81,38 +81,38 @@ list_open room text at s (vs ∷ inner) le u =
       },
     )
 
-pub list_too_deep : (text : List ℕ) (at room : ℕ) → StandsAt text at 40 → room ≡ 0 → IsDeepAt room GoesValue (λ most. ValueStandsIn most at) IsUnclosedValue text at
-list_too_deep text at room s z = record {
-  place = at;
+pub list_too_deep : (text : List ℕ) (at max_depth : ℕ) → StandsAt text at 40 → max_depth ≡ 0 → IsDeepAt max_depth GoesValue (λ limit. ValueStandsIn limit at) IsUnclosedValue text at
+list_too_deep text at max_depth s z = record {
+  offset = at;
   begun = record {
     part = 40 ∷ [];
     spelled = s.spelled;
-    goes = goes_list (suc room) 0 [] (omega arith) (inl (no_member 0));
+    goes = goes_list (suc max_depth) 0 [] (omega arith) (inl (no_member 0));
     ordered = omega arith;
     within = omega (arith, s.within);
   };
-  none_whole = stops_here (ValueStandsIn room at) text at at (omega arith) s.within (λ other a w.
-      let p = inside_list room 0 other at w.value w.rest (stands_too text other at at 40 a (omega arith) s) (omega arith) w.stands in
+  none_whole = stops_here (ValueStandsIn max_depth at) text at at (omega arith) s.within (λ other a w.
+      let p = inside_list max_depth 0 other at w.value w.rest (stands_too text other at at 40 a (omega arith) s) (omega arith) w.stands in
       omega (arith, p.1));
-  none_open = stops_here (From (IsUnclosedValue room) at) text at at (omega arith) s.within (λ other a u.
-      let p = list_open room other at (stands_too text other at at 40 a (omega arith) s) u.lists u.fits u.unclosed in
+  none_open = stops_here (From (IsUnclosedValue max_depth) at) text at at (omega arith) s.within (λ other a u.
+      let p = list_open max_depth other at (stands_too text other at at 40 a (omega arith) s) u.lists u.fits u.unclosed in
       omega (arith, p.0));
 }
 
-pub list_ends : (room : ℕ) (text : List ℕ) (at : ℕ) (fault : FormFault) → StandsAt text at 40 → 0 < room
-    → IsValueEnd (room - 1) GoesMembers (λ most. MembersStandIn most (at + 1)) AreUnclosedMembers text (at + 1) fault
-    → IsValueEnd room GoesValue (λ most. ValueStandsIn most at) IsUnclosedValue text at fault
-list_ends room text at fault s some h =
-    ends_later room (room - 1) GoesMembers GoesValue AreUnclosedMembers IsUnclosedValue (λ most. ValueStandsIn most at) (λ most. MembersStandIn most (at + 1)) text (40 ∷ []) at (at + 1) fault
+pub list_ends : (max_depth : ℕ) (text : List ℕ) (at : ℕ) (fault : FormFault) → StandsAt text at 40 → 0 < max_depth
+    → IsValueEnd (max_depth - 1) GoesMembers (λ limit. MembersStandIn limit (at + 1)) AreUnclosedMembers text (at + 1) fault
+    → IsValueEnd max_depth GoesValue (λ limit. ValueStandsIn limit at) IsUnclosedValue text at fault
+list_ends max_depth text at fault s some h =
+    ends_later max_depth (max_depth - 1) GoesMembers GoesValue AreUnclosedMembers IsUnclosedValue (λ limit. ValueStandsIn limit at) (λ limit. MembersStandIn limit (at + 1)) text (40 ∷ []) at (at + 1) fault
     (omega arith) s.spelled
-    (λ part y e g. goes_list room (room - 1) part (omega arith) g)
-    (λ part y e g. goes_list (suc room) (suc (room - 1)) part (omega arith) g)
+    (λ part y e g. goes_list max_depth (max_depth - 1) part (omega arith) g)
+    (λ part y e g. goes_list (suc max_depth) (suc (max_depth - 1)) part (omega arith) g)
     (λ k le whole going. (
-      stops_later (ValueStandsIn room at) (MembersStandIn (room - 1) (at + 1)) text at (at + 1) k (omega arith) (λ other n a few w.
-          let p = inside_list room (room - 1) other at w.value w.rest (stands_too text other n at 40 a (omega arith) s) (omega arith) w.stands in
+      stops_later (ValueStandsIn max_depth at) (MembersStandIn (max_depth - 1) (at + 1)) text at (at + 1) k (omega arith) (λ other n a few w.
+          let p = inside_list max_depth (max_depth - 1) other at w.value w.rest (stands_too text other n at 40 a (omega arith) s) (omega arith) w.stands in
           record { items = p.0; rest = w.rest; stands = p.2 }) whole,
-      stops_later (From (IsUnclosedValue room) at) (From (AreUnclosedMembers (room - 1)) (at + 1)) text at (at + 1) k (omega arith) (λ other n a few u.
-          (list_open room other at (stands_too text other n at 40 a (omega arith) s) u.lists u.fits u.unclosed).1) going,
+      stops_later (From (IsUnclosedValue max_depth) at) (From (AreUnclosedMembers (max_depth - 1)) (at + 1)) text at (at + 1) k (omega arith) (λ other n a few u.
+          (list_open max_depth other at (stands_too text other n at 40 a (omega arith) s) u.lists u.fits u.unclosed).1) going,
     ))
     (λ k is le going.
     stops_later (From (Anywhere IsUnclosedValue) at) (From (Anywhere AreUnclosedMembers) (at + 1)) text at (at + 1) k (omega arith) (λ other n a few u.
@@ -120,28 +120,28 @@ list_ends room text at fault s some h =
 
 -- ---- members
 
-pub members_short : (room : ℕ) (text : List ℕ) (at i : ℕ) (vs : Values) → HasMembers room text at i vs → drop i text ≡ [] → Begun (GoesMembers room) text at (length text)
-members_short room text at i vs m e =
-    subst (Begun (GoesMembers room) text at) (end_is text i e m.within) (record {
+pub members_short : (max_depth : ℕ) (text : List ℕ) (at i : ℕ) (vs : Values) → HasMembers max_depth text at i vs → drop i text ≡ [] → Begun (GoesMembers max_depth) text at (length text)
+members_short max_depth text at i vs m e =
+    subst (Begun (GoesMembers max_depth) text at) (end_is text i e m.within) (record {
       part = m.front ++ [];
       spelled = m.front_is ∙ ap (λ t. t ++ drop i text) (sym (append-nil m.front));
-      goes = m.onward room (omega arith) [] [] e (inl (no_member room));
+      goes = m.onward max_depth (omega arith) [] [] e (inl (no_member max_depth));
       ordered = m.ordered;
       within = m.within;
     })
 
 -- members that are not closed begin with a value, whole or not
-member_open : (most : ℕ) (text : List ℕ) (at : ℕ) → StartsVisible (drop at text) → AreUnclosedMembers most (drop at text)
-    → ValueStandsIn most at text ⊎ IsUnclosedValue most (drop at text)
-member_open most text at visible u = begins u.items u.unclosed u.few
+member_open : (limit : ℕ) (text : List ℕ) (at : ℕ) → StartsVisible (drop at text) → AreUnclosedMembers limit (drop at text)
+    → ValueStandsIn limit at text ⊎ IsUnclosedValue limit (drop at text)
+member_open limit text at visible u = begins u.items u.unclosed u.few
   where
-    begins : (vs : Values) → UnclosedMembers (UnclosedValue u.lists) vs (drop at text) → depths vs ≤ most → ValueStandsIn most at text ⊎ IsUnclosedValue most (drop at text)
+    begins : (vs : Values) → UnclosedMembers (UnclosedValue u.lists) vs (drop at text) → depths vs ≤ limit → ValueStandsIn limit at text ⊎ IsUnclosedValue limit (drop at text)
     begins none k few =
         let p = one_end [] k.0 (drop at text) k.1 tt k.3 visible (unclosed_value_visible u.lists k.1 k.4) k.2 in
         inr (record { lists = u.lists; fits = u.fits; unclosed = subst (UnclosedValue u.lists) (sym p.1) k.4 })
     begins (more w ws) k few =
         let p = one_end [] k.0 (drop at text) (k.2 ++ k.3) tt k.5 visible (value_visible k.1 k.2 k.3 w k.6) k.4 in
-        let deep : max (depth w) (depths ws) ≤ most = few in
+        let deep : max (depth w) (depths ws) ≤ limit = few in
         inl (record {
           value = w;
           rest = k.3;
@@ -152,31 +152,31 @@ neither : (A B : Type 0) → A ⊎ B → (A → ⊥) → (B → ⊥) → ⊥
 neither A B (inl a) f g = f a
 neither A B (inr b) f g = g b
 
-pub member_ends : (room : ℕ) (text : List ℕ) (at i c : ℕ) (vs : Values) (fault : FormFault) → HasMembers room text at i vs → StandsAt text i c → (c ≡ 41 → ⊥)
-    → IsValueFault (ValueStands i) text i fault → IsValueEnd room GoesValue (λ most. ValueStandsIn most i) IsUnclosedValue text i fault
-    → IsValueEnd room GoesMembers (λ most. MembersStandIn most at) AreUnclosedMembers text at fault
-member_ends room text at i c vs fault m s apart refused h =
-    ends_later room room GoesValue GoesMembers IsUnclosedValue AreUnclosedMembers (λ most. MembersStandIn most at) (λ most. ValueStandsIn most i) text m.front at i fault
+pub member_ends : (max_depth : ℕ) (text : List ℕ) (at i c : ℕ) (vs : Values) (fault : FormFault) → HasMembers max_depth text at i vs → StandsAt text i c → (c ≡ 41 → ⊥)
+    → IsValueFault (ValueStands i) text i fault → IsValueEnd max_depth GoesValue (λ limit. ValueStandsIn limit i) IsUnclosedValue text i fault
+    → IsValueEnd max_depth GoesMembers (λ limit. MembersStandIn limit at) AreUnclosedMembers text at fault
+member_ends max_depth text at i c vs fault m s apart refused h =
+    ends_later max_depth max_depth GoesValue GoesMembers IsUnclosedValue AreUnclosedMembers (λ limit. MembersStandIn limit at) (λ limit. ValueStandsIn limit i) text m.front at i fault
     m.ordered m.front_is
-    (λ part y e g. m.onward room (omega arith) part y e (goes_member room part g))
-    (λ part y e g. m.onward (suc room) (omega arith) part y e (goes_member (suc room) part g))
+    (λ part y e g. m.onward max_depth (omega arith) part y e (goes_member max_depth part g))
+    (λ part y e g. m.onward (suc max_depth) (omega arith) part y e (goes_member (suc max_depth) part g))
     (λ k le whole going. (
-      stops_later (MembersStandIn room at) (ValueStandsIn room i) text at i k m.ordered (λ other n a few w.
-          let p = m.elsewhere other n a few room w.items w.rest w.stands in
-          let f = filled_at room other i c p.0 w.rest (stands_too text other n i c a few s) apart (visible_too text other n i a few m.visible) p.1 in
+      stops_later (MembersStandIn max_depth at) (ValueStandsIn max_depth i) text at i k m.ordered (λ other n a few w.
+          let p = m.elsewhere other n a few max_depth w.items w.rest w.stands in
+          let f = filled_at max_depth other i c p.0 w.rest (stands_too text other n i c a few s) apart (visible_too text other n i a few m.visible) p.1 in
           record { value = f.first; rest = f.behind ++ 41 ∷ w.rest; stands = f.stands }) whole,
-      stops_here (From (AreUnclosedMembers room) at) text at k (omega (arith, m.ordered)) whole.within (λ other a u.
-          neither (ValueStandsIn room i other) (IsUnclosedValue room (drop i other))
-          (member_open room other i (visible_too text other k i a le m.visible) (m.unclosed other k a le room u))
-          (λ w. stops_other (ValueStandsIn room i) text i k other a whole w)
-          (λ w. stops_other (From (IsUnclosedValue room) i) text i k other a going w)),
+      stops_here (From (AreUnclosedMembers max_depth) at) text at k (omega (arith, m.ordered)) whole.within (λ other a u.
+          neither (ValueStandsIn max_depth i other) (IsUnclosedValue max_depth (drop i other))
+          (member_open max_depth other i (visible_too text other k i a le m.visible) (m.unclosed other k a le max_depth u))
+          (λ w. stops_other (ValueStandsIn max_depth i) text i k other a whole w)
+          (λ w. stops_other (From (IsUnclosedValue max_depth) i) text i k other a going w)),
     ))
     (λ k is le going.
     let whole : StopsAt (ValueStands i) text i k = subst (IsValueFault (ValueStands i) text i) is refused in
     stops_here (From (Anywhere AreUnclosedMembers) at) text at k (omega (arith, m.ordered)) whole.within (λ other a u.
     neither (ValueStandsIn u.0 i other) (IsUnclosedValue u.0 (drop i other))
     (member_open u.0 other i (visible_too text other k i a le m.visible) (m.unclosed other k a le u.0 u.1))
-    (λ w. stops_other (ValueStands i) text i k other a whole (record { room = u.0; value = w.value; rest = w.rest; stands = w.stands }))
+    (λ w. stops_other (ValueStands i) text i k other a whole (record { max_depth = u.0; value = w.value; rest = w.rest; stands = w.stands }))
     (λ w. stops_other (From (Anywhere IsUnclosedValue) i) text i k other a going (u.0, w)))) h
 
 -- ---- hinted strings
@@ -220,13 +220,13 @@ hint_closed text at begin to read s t r u =
     let k = r.stands in
     unclosed_simple k.ends_token k.spelling (drop to text) read (drop begin text) k.meant (hint_found text at begin s t u) (sym k.spelled)
 
-pub hint_ends : (room : ℕ) (text : List ℕ) (at begin : ℕ) (fault : FormFault) → StandsAt text at 91 → Skips text (at + 1) begin
+pub hint_ends : (max_depth : ℕ) (text : List ℕ) (at begin : ℕ) (fault : FormFault) → StandsAt text at 91 → Skips text (at + 1) begin
     → RefusesPart (StringStands begin) text begin fault → IsPartEnd GoesString IsUnclosedString text begin fault
-    → IsPartEnd (GoesValue room) (Anywhere IsUnclosedValue) text at fault
-hint_ends room text at begin fault s t refused h =
-    end_later GoesString (GoesValue room) IsUnclosedString (Anywhere IsUnclosedValue) text
+    → IsPartEnd (GoesValue max_depth) (Anywhere IsUnclosedValue) text at fault
+hint_ends max_depth text at begin fault s t refused h =
+    end_later GoesString (GoesValue max_depth) IsUnclosedString (Anywhere IsUnclosedValue) text
     (91 ∷ t.spaces) at begin fault (omega (arith, t.ordered)) (s.spelled ∙ ap (λ x. 91 ∷ x) t.spelled)
-    (λ part g. goes_hint room t.spaces part t.are_spaces g)
+    (λ part g. goes_hint max_depth t.spaces part t.are_spaces g)
     (λ k is going.
     let whole : StopsAt (StringStands begin) text begin k = subst (RefusesPart (StringStands begin) text begin) is refused in
     stops_here (From (Anywhere IsUnclosedValue) at) text at k (omega (arith, t.ordered, going.behind)) going.within (λ other a u.
@@ -236,34 +236,34 @@ hint_ends room text at begin fault s t refused h =
     (λ w. stops_other (From IsUnclosedString begin) text begin k other a going (hint_found other at begin o q w))
     (λ w. stops_other (StringStands begin) text begin k other a whole (record { octets = w.hint; rest = _; stands = whole_hint other at begin o q w })))) h
 
-closing_goes : (room : ℕ) (as_token : Bool) (hint inside hint_text behind_hint : List ℕ) → AreSpaces inside → Simple as_token hint_text hint → AreSpaces behind_hint
-    → GoesValue room (91 ∷ (inside ++ (hint_text ++ behind_hint)))
-closing_goes room as_token hint inside hint_text behind_hint s m t = inl (record {
+closing_goes : (max_depth : ℕ) (as_token : Bool) (hint inside hint_text behind_hint : List ℕ) → AreSpaces inside → Simple as_token hint_text hint → AreSpaces behind_hint
+    → GoesValue max_depth (91 ∷ (inside ++ (hint_text ++ behind_hint)))
+closing_goes max_depth as_token hint inside hint_text behind_hint s m t = inl (record {
   rest = 93 ∷ 97 ∷ [];
-  whole = subst (IsValuePart room) (simp append_assoc refl)
-      (hinted_value room true as_token hint (97 ∷ []) inside hint_text behind_hint [] (97 ∷ []) s m t tt (refl, (refl, (refl, tt))));
+  whole = subst (IsValuePart max_depth) (simp append_assoc refl)
+      (hinted_value max_depth true as_token hint (97 ∷ []) inside hint_text behind_hint [] (97 ∷ []) s m t tt (refl, (refl, (refl, tt))));
 })
 
-closing_begun : (room : ℕ) (text : List ℕ) (at begin to close : ℕ) (read : List ℕ) → StandsAt text at 91 → Skips text (at + 1) begin → ReadsString text begin read to
-    → Skips text to close → Begun (GoesValue room) text at close
-closing_begun room text at begin to close read s t r q = record {
+closing_begun : (max_depth : ℕ) (text : List ℕ) (at begin to close : ℕ) (read : List ℕ) → StandsAt text at 91 → Skips text (at + 1) begin → ReadsString text begin read to
+    → Skips text to close → Begun (GoesValue max_depth) text at close
+closing_begun max_depth text at begin to close read s t r q = record {
   part = 91 ∷ (t.spaces ++ (r.stands.spelling ++ q.spaces));
   spelled =
       s.spelled ∙ ap (λ x. 91 ∷ x) (t.spelled ∙ ap (λ x. t.spaces ++ x) (r.stands.spelled ∙ ap (λ x. r.stands.spelling ++ x) q.spelled)) ∙ simp append_assoc refl;
-  goes = closing_goes room r.stands.ends_token read t.spaces r.stands.spelling q.spaces t.are_spaces r.stands.meant q.are_spaces;
+  goes = closing_goes max_depth r.stands.ends_token read t.spaces r.stands.spelling q.spaces t.are_spaces r.stands.meant q.are_spaces;
   ordered = omega (arith, t.ordered, r.forward, q.ordered);
   within = q.within;
 }
 
-pub closing_short : (room : ℕ) (text : List ℕ) (at begin to close : ℕ) (read : List ℕ) → StandsAt text at 91 → Skips text (at + 1) begin → ReadsString text begin read to
-    → Skips text to close → drop close text ≡ [] → Begun (GoesValue room) text at (length text)
-closing_short room text at begin to close read s t r q e =
-    subst (Begun (GoesValue room) text at) (end_is text close e q.within) (closing_begun room text at begin to close read s t r q)
+pub closing_short : (max_depth : ℕ) (text : List ℕ) (at begin to close : ℕ) (read : List ℕ) → StandsAt text at 91 → Skips text (at + 1) begin → ReadsString text begin read to
+    → Skips text to close → drop close text ≡ [] → Begun (GoesValue max_depth) text at (length text)
+closing_short max_depth text at begin to close read s t r q e =
+    subst (Begun (GoesValue max_depth) text at) (end_is text close e q.within) (closing_begun max_depth text at begin to close read s t r q)
 
-pub closing_ends : (room : ℕ) (text : List ℕ) (at begin to close c : ℕ) (read : List ℕ) → StandsAt text at 91 → Skips text (at + 1) begin → ReadsString text begin read to
-    → Skips text to close → StandsAt text close c → c ≢ 93 → IsPartEnd (GoesValue room) (Anywhere IsUnclosedValue) text at (Bad close)
-closing_ends room text at begin to close c read s t r q stands apart = (
-  closing_begun room text at begin to close read s t r q,
+pub closing_ends : (max_depth : ℕ) (text : List ℕ) (at begin to close c : ℕ) (read : List ℕ) → StandsAt text at 91 → Skips text (at + 1) begin → ReadsString text begin read to
+    → Skips text to close → StandsAt text close c → c ≢ 93 → IsPartEnd (GoesValue max_depth) (Anywhere IsUnclosedValue) text at (Bad close)
+closing_ends max_depth text at begin to close c read s t r q stands apart = (
+  closing_begun max_depth text at begin to close read s t r q,
   stops_here (From (Anywhere IsUnclosedValue) at) text at close (omega (arith, t.ordered, r.forward, q.ordered)) stands.within (λ other a u.
       let o = stands_too text other close at 91 a (omega (arith, t.ordered, r.forward, q.ordered)) s in
       let p = skips_too text other close (at + 1) begin a (omega (arith, r.forward, q.ordered)) t in
@@ -275,18 +275,18 @@ closing_ends room text at begin to close c read s t r q stands apart = (
       (sym d.spelled ∙ closing_found other at begin to close read o p l (skips_too text other close to close a (omega arith) q) w)))),
 )
 
-pub body_ends : (room : ℕ) (text : List ℕ) (at begin to close next : ℕ) (read : List ℕ) (fault : FormFault) → StandsAt text at 91 → Skips text (at + 1) begin
+pub body_ends : (max_depth : ℕ) (text : List ℕ) (at begin to close next : ℕ) (read : List ℕ) (fault : FormFault) → StandsAt text at 91 → Skips text (at + 1) begin
     → ReadsString text begin read to → Skips text to close → StandsAt text close 93 → Skips text (close + 1) next → IsPartEnd GoesString IsUnclosedString text next fault
-    → IsPartEnd (GoesValue room) (Anywhere IsUnclosedValue) text at fault
-body_ends room text at begin to close next read fault s t r q closes v h =
-    end_later GoesString (GoesValue room) IsUnclosedString (Anywhere IsUnclosedValue) text
+    → IsPartEnd (GoesValue max_depth) (Anywhere IsUnclosedValue) text at fault
+body_ends max_depth text at begin to close next read fault s t r q closes v h =
+    end_later GoesString (GoesValue max_depth) IsUnclosedString (Anywhere IsUnclosedValue) text
     (91 ∷ (t.spaces ++ (r.stands.spelling ++ (q.spaces ++ 93 ∷ v.spaces)))) at next fault
     (omega (arith, t.ordered, r.forward, q.ordered, v.ordered))
     (s.spelled ∙ ap (λ x. 91 ∷ x) (t.spelled ∙ ap (λ x. t.spaces ++ x) (r.stands.spelled ∙ ap (λ x. r.stands.spelling ++ x) (q.spelled ∙ ap (λ x. q.spaces ++ x)
     (closes.spelled ∙ ap (λ x. 93 ∷ x) v.spelled)))) ∙ simp append_assoc refl)
     (λ part g.
-    subst (GoesValue room) (simp append_assoc refl)
-    (goes_body room r.stands.ends_token read t.spaces r.stands.spelling q.spaces v.spaces part t.are_spaces r.stands.meant q.are_spaces v.are_spaces g))
+    subst (GoesValue max_depth) (simp append_assoc refl)
+    (goes_body max_depth r.stands.ends_token read t.spaces r.stands.spelling q.spaces v.spaces part t.are_spaces r.stands.meant q.are_spaces v.are_spaces g))
     (λ k is going.
     stops_here (From (Anywhere IsUnclosedValue) at) text at k (omega (arith, t.ordered, r.forward, q.ordered, v.ordered, going.behind)) going.within (λ other a u.
     let o = stands_too text other k at 91 a (omega (arith, t.ordered, r.forward, q.ordered, v.ordered, going.behind)) s in

@@ -28,9 +28,9 @@ pub record HintedAt (text : List ℕ) (at : ℕ) (rest : List ℕ) : Type 0 wher
   pub apart : IsApart ends_token rest
   pub spelled : drop at text ≡ 91 ∷ (meant.inside ++ (meant.hint_text ++ (meant.behind_hint ++ 93 ∷ (meant.behind ++ (meant.octets_text ++ rest)))))
 
-pub hinted_at : (room : ℕ) (text : List ℕ) (at : ℕ) (v : Value) (rest : List ℕ) → StandsAt text at 91 → ValueAt room text at v rest → HintedAt text at rest
-hinted_at room text at (string None octets) rest stands h = absurd (search (rules, simple_differs))
-hinted_at room text at (string (Some hint) octets) rest stands h = record {
+pub hinted_at : (max_depth : ℕ) (text : List ℕ) (at : ℕ) (v : Value) (rest : List ℕ) → StandsAt text at 91 → ValueAt max_depth text at v rest → HintedAt text at rest
+hinted_at max_depth text at (string None octets) rest stands h = absurd (search (rules, simple_differs))
+hinted_at max_depth text at (string (Some hint) octets) rest stands h = record {
   ends_token = h.ends_token;
   spelling = h.spelling;
   hint = hint;
@@ -39,7 +39,7 @@ hinted_at room text at (string (Some hint) octets) rest stands h = record {
   apart = h.apart;
   spelled = h.spelled ∙ hinted_text h.ends_token h.spelling hint octets rest h.meant;
 }
-hinted_at room text at (list vs) rest stands h = search (rules, octet_is, list_text)
+hinted_at max_depth text at (list vs) rest stands h = search (rules, octet_is, list_text)
 
 -- the octets after the hint of such a string
 abbrev pub behind_hint : (text : List ℕ) (at : ℕ) (rest : List ℕ) → HintedAt text at rest → List ℕ
@@ -127,11 +127,12 @@ spelled_text text begin v s other (inr w) = absurd (other (w.braced.body ++ 125 
 text_is : (text : List ℕ) (begin to : ℕ) (s : Skips text 0 begin) (part : List ℕ) → drop begin text ≡ part ++ drop to text → to ≤ length text → take to text ≡ s.spaces ++ part
 text_is text begin to s part e le = search (rules, front_is, append_assoc)
 
-goes_whole : (room : ℕ) (text : List ℕ) (begin to : ℕ) → Skips text 0 begin → Begun (GoesValue room) text begin to → GoesOnWithin room (take to text)
-goes_whole room text begin to s b = subst (GoesOnWithin room) (sym (text_is text begin to s b.part b.spelled b.within)) (goes s.spaces b.part s.are_spaces b.goes)
+goes_whole : (max_depth : ℕ) (text : List ℕ) (begin to : ℕ) → Skips text 0 begin → Begun (GoesValue max_depth) text begin to
+    → GoesOnWithin max_depth (take to text)
+goes_whole max_depth text begin to s b = subst (GoesOnWithin max_depth) (sym (text_is text begin to s b.part b.spelled b.within)) (goes s.spaces b.part s.are_spaces b.goes)
   where
-    goes : (spaces part : List ℕ) → AreSpaces spaces → GoesValue room part → GoesOnWithin room (spaces ++ part)
-    goes spaces part h (inl k) = inl (value_begins room spaces part h k)
+    goes : (spaces part : List ℕ) → AreSpaces spaces → GoesValue max_depth part → GoesOnWithin max_depth (spaces ++ part)
+    goes spaces part h (inl k) = inl (value_begins max_depth spaces part h k)
     goes spaces part h (inr u) = inr (record {
       before = spaces;
       value = part;
@@ -143,8 +144,9 @@ goes_whole room text begin to s b = subst (GoesOnWithin room) (sym (text_is text
     })
 
 -- in a text that is not closed the value that is not closed follows the whitespace
-unclosed_at : (room : ℕ) (text : List ℕ) (begin : ℕ) → Skips text 0 begin → IsUnclosedText room text → IsUnclosedValue room (drop begin text)
-unclosed_at room text begin s u = search (rules, one_end, unclosed_value_visible)
+unclosed_at : (max_depth : ℕ) (text : List ℕ) (begin : ℕ) → Skips text 0 begin → IsUnclosedText max_depth text
+    → IsUnclosedValue max_depth (drop begin text)
+unclosed_at max_depth text begin s u = search (rules, one_end, unclosed_value_visible)
 
 -- ---- a whole value before an octet
 
@@ -202,29 +204,30 @@ spelling_stops text begin k s h b =
     (stops_later IsSpelling (ValueStands begin) text begin begin k (omega arith) (λ other n a le w.
     search (rules, spelled_at other begin w.value (skips_too text other n 0 begin a le s) w.spelled)) h).none b
 
-spelling_within_stops : (room : ℕ) (text : List ℕ) (begin k : ℕ) → Skips text 0 begin → StopsAt (ValueStandsIn room begin) text begin k
-    → Begins (IsSpellingWithin room) (take (k + 1) text) → ⊥
-spelling_within_stops room text begin k s h b =
-    (stops_later (IsSpellingWithin room) (ValueStandsIn room begin) text begin begin k (omega arith) (λ other n a le w.
+spelling_within_stops : (max_depth : ℕ) (text : List ℕ) (begin k : ℕ) → Skips text 0 begin → StopsAt (ValueStandsIn max_depth begin) text begin k
+    → Begins (IsSpellingWithin max_depth) (take (k + 1) text) → ⊥
+spelling_within_stops max_depth text begin k s h b =
+    (stops_later (IsSpellingWithin max_depth) (ValueStandsIn max_depth begin) text begin begin k (omega arith) (λ other n a le w.
     let v = spelled_at other begin w.value (skips_too text other n 0 begin a le s) w.spelled in
     search rules) h).none b
 
-unclosed_stops : (U : List ℕ → Type 0) (room : ℕ) (text : List ℕ) (begin k : ℕ) → Skips text 0 begin → ((x : List ℕ) → IsUnclosedValue room x → U x)
-    → StopsAt (From U begin) text begin k → IsUnclosedText room (take (k + 1) text) → ⊥
-unclosed_stops U room text begin k s on h u =
-    (stops_later (IsUnclosedText room) (From U begin) text begin begin k (omega arith) (λ other n a le w.
-    on (drop begin other) (unclosed_at room other begin (skips_too text other n 0 begin a le s) w)) h).none
-    (record { rest = []; whole = subst (IsUnclosedText room) (sym (append-nil (take (k + 1) text))) u })
+unclosed_stops : (U : List ℕ → Type 0) (max_depth : ℕ) (text : List ℕ) (begin k : ℕ) → Skips text 0 begin
+    → ((x : List ℕ) → IsUnclosedValue max_depth x → U x)
+    → StopsAt (From U begin) text begin k → IsUnclosedText max_depth (take (k + 1) text) → ⊥
+unclosed_stops U max_depth text begin k s on h u =
+    (stops_later (IsUnclosedText max_depth) (From U begin) text begin begin k (omega arith) (λ other n a le w.
+    on (drop begin other) (unclosed_at max_depth other begin (skips_too text other n 0 begin a le s) w)) h).none
+    (record { rest = []; whole = subst (IsUnclosedText max_depth) (sym (append-nil (take (k + 1) text))) u })
 
 pub value_refused : (text : List ℕ) (begin : ℕ) (fault : FormFault) → Skips text 0 begin → IsValueFault (ValueStands begin) text begin fault
-    → IsValueEnd 64 GoesValue (λ most. ValueStandsIn most begin) IsUnclosedValue text begin fault
+    → IsValueEnd 64 GoesValue (λ limit. ValueStandsIn limit begin) IsUnclosedValue text begin fault
     → ((v : Value) (rest : List ℕ) → ValueAt 64 text begin v rest → fault ≡ Memory) → ((v : Value) → IsSpelledWithin text v → fault ≡ Memory) → RefusesSpelling text fault
 value_refused text begin TooDeep s h b only whole = (
-  b.place + 1,
-  goes_anyhow 65 (take (b.place + 1) text) (goes_whole 65 text begin (b.place + 1) s b.begun),
+  b.offset + 1,
+  goes_anyhow 65 (take (b.offset + 1) text) (goes_whole 65 text begin (b.offset + 1) s b.begun),
   λ g. elim g [
-    | inl k ↦ spelling_within_stops 64 text begin b.place s b.none_whole k
-    | inr u ↦ unclosed_stops (IsUnclosedValue 64) 64 text begin b.place s (λ x k. k) b.none_open u
+    | inl k ↦ spelling_within_stops 64 text begin b.offset s b.none_whole k
+    | inr u ↦ unclosed_stops (IsUnclosedValue 64) 64 text begin b.offset s (λ x k. k) b.none_open u
   ],
 )
 value_refused text begin Short s h b only whole =

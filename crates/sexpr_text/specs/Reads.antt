@@ -139,31 +139,31 @@ pub record ReadsString (text : List ℕ) (at : ℕ) (octets : List ℕ) (to : �
   pub forward : at < to
   pub within : to ≤ length text
 
--- a value in which at most `room` lists are open at once is at an offset, and these octets follow it
-pub record ValueAt (room : ℕ) (text : List ℕ) (at : ℕ) (v : Value) (rest : List ℕ) : Type 0 where
+-- a value in which at most `max_depth` lists are open at once is at an offset, and these octets follow it
+pub record ValueAt (max_depth : ℕ) (text : List ℕ) (at : ℕ) (v : Value) (rest : List ℕ) : Type 0 where
   pub ends_token : Bool
   pub spelling : List ℕ
   pub spelled : drop at text ≡ spelling ++ rest
   pub meant : SpellsAs ends_token spelling v
   pub apart : IsApart ends_token rest
-  pub fits : depth v ≤ room
+  pub fits : depth v ≤ max_depth
 
 -- such a value was read, up to an offset
-pub record ReadsValue (room : ℕ) (text : List ℕ) (at : ℕ) (v : Value) (to : ℕ) : Type 0 where
-  pub stands : ValueAt room text at v (drop to text)
+pub record ReadsValue (max_depth : ℕ) (text : List ℕ) (at : ℕ) (v : Value) (to : ℕ) : Type 0 where
+  pub stands : ValueAt max_depth text at v (drop to text)
   pub forward : at < to
   pub within : to ≤ length text
 
 -- the members of a list are at an offset, with whitespace around each, and these octets follow the closing parenthesis
-pub record MembersAt (room : ℕ) (text : List ℕ) (at : ℕ) (vs : Values) (rest : List ℕ) : Type 0 where
+pub record MembersAt (max_depth : ℕ) (text : List ℕ) (at : ℕ) (vs : Values) (rest : List ℕ) : Type 0 where
   pub inside : List ℕ
   pub spelled : drop at text ≡ inside ++ char ")" ∷ rest
   pub meant : SpellsMembers inside vs
-  pub fits : depths vs ≤ room
+  pub fits : depths vs ≤ max_depth
 
 -- such members were read, up to an offset
-pub record ReadsMembers (room : ℕ) (text : List ℕ) (at : ℕ) (vs : Values) (to : ℕ) : Type 0 where
-  pub stands : MembersAt room text at vs (drop to text)
+pub record ReadsMembers (max_depth : ℕ) (text : List ℕ) (at : ℕ) (vs : Values) (to : ℕ) : Type 0 where
+  pub stands : MembersAt max_depth text at vs (drop to text)
   pub forward : at < to
   pub within : to ≤ length text
 
@@ -223,14 +223,14 @@ pub record StringStands (at : ℕ) (text : List ℕ) : Type 0 where
 
 -- a value of any depth
 pub record ValueStands (at : ℕ) (text : List ℕ) : Type 0 where
-  pub room : ℕ
+  pub max_depth : ℕ
   pub value : Value
   pub rest : List ℕ
-  pub stands : ValueAt room text at value rest
+  pub stands : ValueAt max_depth text at value rest
 
 -- members of any depth, and a closing parenthesis
 pub record MembersStand (at : ℕ) (text : List ℕ) : Type 0 where
-  pub room : ℕ
+  pub max_depth : ℕ
   pub items : Values
   pub rest : List ℕ
-  pub stands : MembersAt room text at items rest
+  pub stands : MembersAt max_depth text at items rest

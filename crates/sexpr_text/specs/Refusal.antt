@@ -97,13 +97,13 @@ depth_open (vs ∷ inner) = suc (max (depths vs) (depth_open inner))
 -- ---- whole texts
 
 -- whitespace and such a value, in which at most so many lists are open at once
-pub record IsUnclosedText (room : ℕ) (text : List ℕ) : Type 0 where
+pub record IsUnclosedText (max_depth : ℕ) (text : List ℕ) : Type 0 where
   pub before : List ℕ
   pub value : List ℕ
   pub lists : List Values
   pub parts : text ≡ before ++ value
   pub spaces_before : AreSpaces before
-  pub fits : depth_open lists ≤ room
+  pub fits : depth_open lists ≤ max_depth
   pub unclosed : UnclosedValue lists value
 
 -- ---- what a refusal means for a text
@@ -114,18 +114,18 @@ pub record IsSpelling (text : List ℕ) : Type 0 where
   pub spelled : Spells text value
 
 -- a text spells a value in which at most so many lists are open at once
-pub record IsSpellingWithin (room : ℕ) (text : List ℕ) : Type 0 where
+pub record IsSpellingWithin (max_depth : ℕ) (text : List ℕ) : Type 0 where
   pub value : Value
   pub spelled : Spells text value
-  pub fits : depth value ≤ room
+  pub fits : depth value ≤ max_depth
 
 -- The octets may continue: they begin a text that spells a value, or they end inside a string between marks.
 abbrev pub GoesOn : List ℕ → Type 0
-GoesOn text = Begins IsSpelling text ⊎ ((room : ℕ) × IsUnclosedText room text)
+GoesOn text = Begins IsSpelling text ⊎ ((max_depth : ℕ) × IsUnclosedText max_depth text)
 
 -- the same, if at most so many lists are open at once
 abbrev pub GoesOnWithin : ℕ → List ℕ → Type 0
-GoesOnWithin room text = Begins (IsSpellingWithin room) text ⊎ IsUnclosedText room text
+GoesOnWithin max_depth text = Begins (IsSpellingWithin max_depth) text ⊎ IsUnclosedText max_depth text
 
 -- What each refusal means for a text in advanced form. TooLong: it has more than 1,048,576 octets. TooDeep: up to some octet
 -- it may continue, and only with more than 64 lists open at once. Short: it may continue, and spells no value. Bad: the

@@ -6,7 +6,7 @@ ghost use Rattle.sexpr_text.specs.{AdvancedForm.{IsTextWithin}, CanonicalTexts.{
 
 use crate::converter::{Form, convert};
 use sexpr_core::syntax::Node;
-use sexpr_core::{Doc, FormFault, MOST_OCTETS};
+use sexpr_core::{Doc, FormFault, MAX_OCTETS};
 use std::alloc::{AllocError, Global};
 use std::marker::Model;
 
@@ -91,14 +91,14 @@ impl<'t> CanonicalText<'t> {
     }
 
     /// Returns the canonical text with these octets, for a caller that has written the value itself. The octets must be
-    /// the canonical form of a value in which at most `MOST_LISTS` lists are open at once. If there are more than
+    /// the canonical form of a value in which at most `MAX_LISTS` lists are open at once. If there are more than
     /// 1,048,576 octets, `document` returns `TooLong`.
     pub fn made(octets: Vec<u8>) -> CanonicalText<'t>
         requires { (v : Value) × IsShallow v × (octets.items ≡ canon v) }
         ensures made { length octets.items ≤ 1048576 → result ≡ Ok octets.items }
         ensures too_long { 1048576 < length octets.items → result ≡ Err FormFault.TooLong }
     {
-        if octets.len() > MOST_OCTETS {
+        if octets.len() > MAX_OCTETS {
             return CanonicalText {
                 held: HeldText::Malformed(FormFault::TooLong),
             };

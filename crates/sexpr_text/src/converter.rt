@@ -16,7 +16,7 @@ use crate::printer::{is_token_octet, print_octets};
 use crate::sinks::VectorSink;
 use crate::strings::{read_string, token_end};
 use sexpr_core::syntax::{append_verbatim, ended, octet_at, octets_in_braces, skip_spaces};
-use sexpr_core::{FormFault, MOST_LISTS, MOST_OCTETS};
+use sexpr_core::{FormFault, MAX_LISTS, MAX_OCTETS};
 use std::alloc::{AllocError, Global};
 
 /// The form in which a value is written.
@@ -29,11 +29,11 @@ pub enum Form {
 }
 
 /// Reads a text in canonical, transport or advanced form, and returns its value in the form `form`. No tree is made. The
-/// result may have more than `MOST_OCTETS` octets: the text may be shorter.
+/// result may have more than `MAX_OCTETS` octets: the text may be shorter.
 ///
 /// # Errors
 ///
-/// TooLong: the text has more than `MOST_OCTETS` octets. Otherwise the first fault from the left: TooDeep, Short, Bad or
+/// TooLong: the text has more than `MAX_OCTETS` octets. Otherwise the first fault from the left: TooDeep, Short, Bad or
 /// Trailing, as `FormFault` says. In transport form the decoded octets are tested at the closing brace, so their fault is
 /// TooDeep, or Bad at this brace. Memory: memory ran out.
 pub fn convert(alloc: Global, form: Form, text: &[u8]) -> Result<Vec<u8>, FormFault>
@@ -82,12 +82,12 @@ fn convert_advanced(alloc: Global, form: Form, text: &[u8]) -> Result<Vec<u8>, F
     ensures too_long { IsErrOf result FormFault.TooLong ↔ (1048576 < length text.now) }
     ensures refused { IfErr result (λ fault. RefusesSpelling text.now fault) }
 {
-    if text.len() > MOST_OCTETS {
+    if text.len() > MAX_OCTETS {
         return Err(FormFault::TooLong);
     }
     let mut out = Vec::new(alloc);
     let begin = skip_spaces(text, 0);
-    let end = convert_value(alloc, text, begin, MOST_LISTS, form, &mut out)?;
+    let end = convert_value(alloc, text, begin, MAX_LISTS, form, &mut out)?;
     ended(text, end)?;
     Ok(out)
 }
@@ -130,7 +130,7 @@ fn write_gap(gap: Option<u8>, out: &mut Vec<u8>) -> Result<(), AllocError>
 
 /// Reads the string without a display hint at the offset `at`, whose first octet is `first`, and appends it to `out` in
 /// the form `form`. Returns the offset after it. A token, a string such as `abc` without marks, has a branch of its own
-/// only for speed. The text has at most `MOST_OCTETS` octets. Err is the first fault, `Short` or `Bad`, or `Memory`. On
+/// only for speed. The text has at most `MAX_OCTETS` octets. Err is the first fault, `Short` or `Bad`, or `Memory`. On
 /// an error a part of the string may have been appended.
 #[inline(always)]
 fn convert_string(
@@ -194,7 +194,7 @@ fn write_token(form: Form, octets: &[u8], out: &mut Vec<u8>) -> Result<(), Alloc
 }
 
 /// Reads the value at the offset `at`, which may be the end of the text, and appends it to `out` in the form `form`.
-/// Returns the offset after it. The text has at most `MOST_OCTETS` octets. At most `room` lists may be open at once in
+/// Returns the offset after it. The text has at most `MAX_OCTETS` octets. At most `max_depth` lists may be open at once in
 /// the value. Err is the first fault, `TooDeep`, `Short` or `Bad`, or `Memory`. On an error a part of the value may
 /// have been appended. This function, `convert_string` and `convert_token` are inlined for speed: a member that is a
 /// token needs no call of them.
@@ -204,28 +204,28 @@ fn convert_value(
     alloc: Global,
     text: &[u8],
     at: usize,
-    room: usize,
+    max_depth: usize,
     form: Form,
     out: &mut Vec<u8>,
 ) -> Result<usize, FormFault>
     requires short { length text.now ≤ 1048576 }
     requires begins { at ≤ length text.now }
-    ensures read { IfOk result (λ to. (v : Value) × ReadsValue room text.now at v to
+    ensures read { IfOk result (λ to. (v : Value) × ReadsValue max_depth text.now at v to
         × (out.new.items ≡ out.old.items ++ written form v)) }
-    ensures only { (v : Value) (rest : List ℕ) → ValueAt room text.now at v rest → IsOkUnless result FormFault.Memory }
+    ensures only { (v : Value) (rest : List ℕ) → ValueAt max_depth text.now at v rest → IsOkUnless result FormFault.Memory }
     ensures refused { IfErr result (λ fault. IsValueFault (ValueStands at) text.now at fault) }
-    ensures begun { IfErr result (λ fault. IsValueEnd room GoesValue (λ most. ValueStandsIn most at) IsUnclosedValue text.now at fault) }
+    ensures begun { IfErr result (λ fault. IsValueEnd max_depth GoesValue (λ limit. ValueStandsIn limit at) IsUnclosedValue text.now at fault) }
 {
     match octet_at(text, at) {
         None => Err(FormFault::Short),
-        Some(b'(') => convert_list(alloc, text, at, room, form, out),
+        Some(b'(') => convert_list(alloc, text, at, max_depth, form, out),
         Some(b'[') => convert_hinted(alloc, text, at, form, out),
         Some(octet) => convert_string(alloc, text, at, octet, form, out),
     }
 }
 
 /// Reads the list whose opening parenthesis is at `at`, and appends it to `out` in the form `form`. Returns the offset
-/// after it. The text has at most `MOST_OCTETS` octets. At most `room` lists may be open at once, this one included.
+/// after it. The text has at most `MAX_OCTETS` octets. At most `max_depth` lists may be open at once, this one included.
 /// Err is the first fault, `TooDeep`, `Short` or `Bad`, or `Memory`. On an error a part of the list may have been
 /// appended.
 #[cycle(converting)]
@@ -233,45 +233,45 @@ fn convert_list(
     alloc: Global,
     text: &[u8],
     at: usize,
-    room: usize,
+    max_depth: usize,
     form: Form,
     out: &mut Vec<u8>,
 ) -> Result<usize, FormFault>
     requires short { length text.now ≤ 1048576 }
     requires begins { StandsAt text.now at 40 }
-    ensures read { IfOk result (λ to. (v : Value) × ReadsValue room text.now at v to
+    ensures read { IfOk result (λ to. (v : Value) × ReadsValue max_depth text.now at v to
         × (out.new.items ≡ out.old.items ++ written form v)) }
-    ensures only { (v : Value) (rest : List ℕ) → ValueAt room text.now at v rest → IsOkUnless result FormFault.Memory }
+    ensures only { (v : Value) (rest : List ℕ) → ValueAt max_depth text.now at v rest → IsOkUnless result FormFault.Memory }
     ensures refused { IfErr result (λ fault. IsValueFault (ValueStands at) text.now at fault) }
-    ensures begun { IfErr result (λ fault. IsValueEnd room GoesValue (λ most. ValueStandsIn most at) IsUnclosedValue text.now at fault) }
+    ensures begun { IfErr result (λ fault. IsValueEnd max_depth GoesValue (λ limit. ValueStandsIn limit at) IsUnclosedValue text.now at fault) }
 {
-    if room == 0 {
+    if max_depth == 0 {
         return Err(FormFault::TooDeep);
     }
     out.push(b'(')?;
-    convert_members(alloc, text, at + 1, room - 1, form, out)
+    convert_members(alloc, text, at + 1, max_depth - 1, form, out)
 }
 
 /// Reads the members of a list and its closing parenthesis, from the offset `at` on, and appends them to `out` in the
 /// form `form`. Whitespace is allowed around each. Returns the offset after the parenthesis. The text has at most
-/// `MOST_OCTETS` octets. At most `room` lists may be open at once in the members. Err is the first fault, `TooDeep`,
+/// `MAX_OCTETS` octets. At most `max_depth` lists may be open at once in the members. Err is the first fault, `TooDeep`,
 /// `Short` or `Bad`, or `Memory`. On an error a part of the members may have been appended.
 #[cycle(converting)]
 fn convert_members(
     alloc: Global,
     text: &[u8],
     at: usize,
-    room: usize,
+    max_depth: usize,
     form: Form,
     out: &mut Vec<u8>,
 ) -> Result<usize, FormFault>
     requires short { length text.now ≤ 1048576 }
     requires begins { at ≤ length text.now }
-    ensures read { IfOk result (λ to. (vs : Values) × ReadsMembers room text.now at vs to
+    ensures read { IfOk result (λ to. (vs : Values) × ReadsMembers max_depth text.now at vs to
         × (out.new.items ≡ out.old.items ++ (written_all form 0 vs ++ 41 ∷ []))) }
-    ensures only { (vs : Values) (rest : List ℕ) → MembersAt room text.now at vs rest → IsOkUnless result FormFault.Memory }
+    ensures only { (vs : Values) (rest : List ℕ) → MembersAt max_depth text.now at vs rest → IsOkUnless result FormFault.Memory }
     ensures refused { IfErr result (λ fault. IsValueFault (MembersStand at) text.now at fault) }
-    ensures begun { IfErr result (λ fault. IsValueEnd room GoesMembers (λ most. MembersStandIn most at) AreUnclosedMembers text.now at fault) }
+    ensures begun { IfErr result (λ fault. IsValueEnd max_depth GoesMembers (λ limit. MembersStandIn limit at) AreUnclosedMembers text.now at fault) }
 {
     let mut gap = None;
     let mut i = skip_spaces(text, at);
@@ -281,7 +281,7 @@ fn convert_members(
             return Ok(i + 1);
         }
         write_gap(gap, out)?;
-        let end = convert_value(alloc, text, i, room, form, out)?;
+        let end = convert_value(alloc, text, i, max_depth, form, out)?;
         gap = gap_between(form);
         i = skip_spaces(text, end);
     }
@@ -289,7 +289,7 @@ fn convert_members(
 }
 
 /// Reads the string with a display hint, such as `[hint]abc`, whose opening bracket is at `at`, and appends it to `out`
-/// in the form `form`, with its hint. Returns the offset after it. The text has at most `MOST_OCTETS` octets. Err is the
+/// in the form `form`, with its hint. Returns the offset after it. The text has at most `MAX_OCTETS` octets. Err is the
 /// first fault, `Short` or `Bad`, or `Memory`. On an error a part of the string may have been appended.
 fn convert_hinted(
     alloc: Global,
@@ -302,9 +302,9 @@ fn convert_hinted(
     requires begins { StandsAt text.now at 91 }
     ensures read { IfOk result (λ to. (v : Value) × ReadsValue 0 text.now at v to
         × (out.new.items ≡ out.old.items ++ written form v)) }
-    ensures only { (room : ℕ) (v : Value) (rest : List ℕ) → ValueAt room text.now at v rest → IsOkUnless result FormFault.Memory }
+    ensures only { (max_depth : ℕ) (v : Value) (rest : List ℕ) → ValueAt max_depth text.now at v rest → IsOkUnless result FormFault.Memory }
     ensures refused { IfErr result (λ fault. RefusesPart (ValueStands at) text.now at fault) }
-    ensures begun { IfErr result (λ fault. (room : ℕ) → IsPartEnd (GoesValue room) (Anywhere IsUnclosedValue) text.now at fault) }
+    ensures begun { IfErr result (λ fault. (max_depth : ℕ) → IsPartEnd (GoesValue max_depth) (Anywhere IsUnclosedValue) text.now at fault) }
 {
     let string = read_hinted_string(alloc, text, at)?;
     out.push(b'[')?;

@@ -20,7 +20,7 @@ pub(crate) struct HintedString<'t> {
 }
 
 /// Reads the string with a display hint, such as `[hint]abc`, whose opening bracket is at `at`. Whitespace is allowed
-/// around the hint and after the closing bracket. The text has at most `MOST_OCTETS` octets. Err is the first fault,
+/// around the hint and after the closing bracket. The text has at most `MAX_OCTETS` octets. Err is the first fault,
 /// `Short` or `Bad`, or `Memory`.
 pub(crate) fn read_hinted_string<'t>(
     alloc: Global,
@@ -30,9 +30,9 @@ pub(crate) fn read_hinted_string<'t>(
     requires short { length text.now ≤ 1048576 }
     requires begins { StandsAt text.now at 91 }
     ensures read { IfOk result (λ read. ReadsValue 0 text.now at (string (Some (cow_slice_items read.hint)) (cow_slice_items read.octets)) read.end) }
-    ensures only { (room : ℕ) (v : Value) (rest : List ℕ) → ValueAt room text.now at v rest → IsOkUnless result FormFault.Memory }
+    ensures only { (max_depth : ℕ) (v : Value) (rest : List ℕ) → ValueAt max_depth text.now at v rest → IsOkUnless result FormFault.Memory }
     ensures refused { IfErr result (λ fault. RefusesPart (ValueStands at) text.now at fault) }
-    ensures begun { IfErr result (λ fault. (room : ℕ) → IsPartEnd (GoesValue room) (Anywhere IsUnclosedValue) text.now at fault) }
+    ensures begun { IfErr result (λ fault. (max_depth : ℕ) → IsPartEnd (GoesValue max_depth) (Anywhere IsUnclosedValue) text.now at fault) }
 {
     let begin = skip_spaces(text, at + 1);
     let hint = read_string(alloc, text, begin)?;

@@ -183,7 +183,7 @@ fn print_atom<S: Sink>(atom: &Atom, sink: &mut S)
     }
 }
 
-/// Prints the space before a member of a list, unless it is the first. `member` is the place of the member, from 0.
+/// Prints the space before a member of a list, unless it is the first. `member` is the index of the member, from 0.
 pub(crate) fn print_gap<S: Sink>(member: usize, sink: &mut S)
     ensures { S.takes sink.old (gap member) sink.new }
 {

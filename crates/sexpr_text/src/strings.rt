@@ -12,7 +12,7 @@ use crate::hexadecimal_strings::read_hexadecimal;
 use crate::printer::is_token_octet;
 use crate::quoted_strings::{lend_quoted, read_quoted};
 use sexpr_core::syntax::{Unpacked, octet_at, read_base64};
-use sexpr_core::{FormFault, MOST_OCTETS};
+use sexpr_core::{FormFault, MAX_OCTETS};
 use std::alloc::{AllocError, Global};
 use std::borrow::CowSlice;
 
@@ -31,7 +31,7 @@ pub(crate) struct MarkedString {
     pub(crate) end: usize,
 }
 
-/// The length in front of a string, and the offset after its digits. A length over `MOST_OCTETS` is `MOST_OCTETS` plus
+/// The length in front of a string, and the offset after its digits. A length over `MAX_OCTETS` is `MAX_OCTETS` plus
 /// one here.
 #[derive(Clone, Copy)]
 struct Count {
@@ -42,7 +42,7 @@ struct Count {
 /// Reads the string without a display hint at the offset `at`, which may be the end of the text: a token such as `abc`, a
 /// string in verbatim form such as `3:abc`, or one between marks, `"abc"`, `#616263#` or `|YWJj|`, which may have its
 /// length in front. A token, a string in verbatim form and a quoted string without an escape or a length are borrowed
-/// from the text. The text has at most `MOST_OCTETS` octets. Err is the first fault, `Short` or `Bad`, or `Memory`.
+/// from the text. The text has at most `MAX_OCTETS` octets. Err is the first fault, `Short` or `Bad`, or `Memory`.
 pub(crate) fn read_string<'t>(
     alloc: Global,
     text: &'t [u8],
@@ -146,7 +146,7 @@ fn read_marked(alloc: Global, text: &[u8], at: usize) -> Result<MarkedString, Fo
 }
 
 /// Reads the decimal length at the offset `at`, of any number of digits. `first` is its first digit; if this is `0`, it
-/// is the whole length. A length over `MOST_OCTETS` is returned as `MOST_OCTETS` plus one, so that no sum overflows: no
+/// is the whole length. A length over `MAX_OCTETS` is returned as `MAX_OCTETS` plus one, so that no sum overflows: no
 /// string of a text has as many octets.
 #[tactic(auto, using(crate::proofs::StringLaws::count_first, crate::proofs::StringLaws::count_more))]
 fn read_count(text: &[u8], at: usize, first: u8) -> Count
@@ -164,14 +164,14 @@ fn read_count(text: &[u8], at: usize, first: u8) -> Count
         if octet < b'0' || octet > b'9' {
             return Count { number, end: i };
         }
-        number = (number * 10 + (octet - b'0') as usize).min(MOST_OCTETS + 1);
+        number = (number * 10 + (octet - b'0') as usize).min(MAX_OCTETS + 1);
         i += 1;
     }
     Count { number, end: i }
 }
 
 /// Reads the string with a length in front, such as `3:abc` or `3#616263#`, whose first digit, `first`, is at `at`. The
-/// length is that of the decoded octets. The text has at most `MOST_OCTETS` octets. Err is `Memory` or the first fault:
+/// length is that of the decoded octets. The text has at most `MAX_OCTETS` octets. Err is `Memory` or the first fault:
 /// `Short`, or `Bad`, which is at the closing mark for a string between marks that does not have this length.
 fn read_counted<'t>(
     alloc: Global,
@@ -205,7 +205,7 @@ fn read_counted<'t>(
 }
 
 /// Reads the `number` octets after the colon of a string in verbatim form, from the offset `at` on, which may be the
-/// end of the text. They are borrowed as they are. The text has at most `MOST_OCTETS` octets. Err is `Short` if fewer
+/// end of the text. They are borrowed as they are. The text has at most `MAX_OCTETS` octets. Err is `Short` if fewer
 /// follow.
 fn read_verbatim<'t>(text: &'t [u8], at: usize, number: usize) -> Result<ReadString<'t>, FormFault>
     requires short { length text.now ≤ 1048576 }

@@ -3,6 +3,6 @@ pub mod Lending
 pub mod Counted
 pub mod Reading
 pub mod BoxPointerValues
-pub mod Places
+pub mod Spans
 pub mod OneCommand
 pub mod Until

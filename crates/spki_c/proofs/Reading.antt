@@ -1,22 +1,22 @@
 -- The texts of an array, one after the other.
 use Rattle.std.proofs.Common.{◌≡◌, ℕ, ◌<◌, ◌≤◌, List, [], ◌∷◌, ◌++◌, ◌+◌, length, map, take, drop, zero, suc, All, slice_index_or, refl, sym, ap, ◌∙◌, subst, arith}
 use Rattle.std.proofs.lemmas.List.Elements.{All-more, All-get_or}
-use Rattle.spki_c.specs.{declared.{text.Text.{Text}, readable.TextPlace.{TextPlace}}, Readables.{place_of}, Asking.{IsLent}}
+use Rattle.spki_c.specs.{declared.{text.Text.{Text}, readable.TextSpan.{TextSpan}}, Readables.{span_of}, Asking.{IsLent}}
 
-abbrev IsNext : List Text → List TextPlace → ℕ → TextPlace → Type 0
-IsNext left places k d = (t : Text) × (ts : List Text) × (left ≡ t ∷ ts) × (slice_index_or places k d ≡ place_of t)
+abbrev IsNext : List Text → List TextSpan → ℕ → TextSpan → Type 0
+IsNext left spans k d = (t : Text) × (ts : List Text) × (left ≡ t ∷ ts) × (slice_index_or spans k d ≡ span_of t)
 
-next_of : (all : List Text) (k : ℕ) (d : TextPlace) → k < length (map place_of all) → IsNext (drop k all) (map place_of all) k d
+next_of : (all : List Text) (k : ℕ) (d : TextSpan) → k < length (map span_of all) → IsNext (drop k all) (map span_of all) k d
 next_of [] k d low = absurd (omega (arith, low))
 next_of (t ∷ ts) zero d low = (t, ts, refl, refl)
 next_of (t ∷ ts) (suc k) d low = next_of ts k d (omega (arith, low))
 
--- if a place is left, a text is left, and the place is that of the first such text
-pub next_at : (left all : List Text) (places : List TextPlace) (k : ℕ) (d : TextPlace) → left ≡ drop k all → places ≡ map place_of all → k < length places
-    → IsNext left places k d
-next_at left all places k d e p =
-    subst (λ (ts : List Text). k < length places → IsNext ts places k d) (sym e)
-    (subst (λ (ps : List TextPlace). k < length ps → IsNext (drop k all) ps k d) (sym p) (next_of all k d))
+-- if a span is left, a text is left, and the span is that of the first such text
+pub next_at : (left all : List Text) (spans : List TextSpan) (k : ℕ) (d : TextSpan) → left ≡ drop k all → spans ≡ map span_of all → k < length spans
+    → IsNext left spans k d
+next_at left all spans k d e p =
+    subst (λ (ts : List Text). k < length spans → IsNext ts spans k d) (sym e)
+    (subst (λ (ps : List TextSpan). k < length ps → IsNext (drop k all) ps k d) (sym p) (next_of all k d))
 
 -- the text that is read is the one at this number, and the others are those after it
 abbrev IsAt : List Text → ℕ → Text → List Text → Type 0

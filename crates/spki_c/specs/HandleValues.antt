@@ -8,17 +8,17 @@ abbrev pub IsQuestion : HandleValue → Type 0
 IsQuestion (Guard held) = ⊥
 IsQuestion (Question opened) = Unit {0}
 
--- The place is marked if the content is a question with such a place. Otherwise the content is unchanged.
+-- The signature is marked if the content is a question that has it. Otherwise the content is unchanged.
 abbrev pub IsMarkedBy : HandleValue → ℕ → HandleValue → Bool → Type 0
-IsMarkedBy (Guard held) place new said = (new ≡ Guard held) × (said ≡ false)
-IsMarkedBy (Question old) place new said =
-    (place < length old.marks.items → (p : OwnedQuestion) × (new ≡ Question p) × HasMark old place p × (said ≡ true))
-    × (length old.marks.items ≤ place → (new ≡ Question old) × (said ≡ false))
+IsMarkedBy (Guard held) index new said = (new ≡ Guard held) × (said ≡ false)
+IsMarkedBy (Question old) index new said =
+    (index < length old.marks.items → (p : OwnedQuestion) × (new ≡ Question p) × HasMark old index p × (said ≡ true))
+    × (length old.marks.items ≤ index → (new ≡ Question old) × (said ≡ false))
 
--- The content is handed back: marked at the place, with status 6, or unchanged, with status 5.
+-- The content is handed back: marked at the index, with status 6, or unchanged, with status 5.
 abbrev pub HandsBack : HandleValue → ℕ → Option HandleValue → ℕ → Type 0
-HandsBack old place back status =
-    (new : HandleValue) × (said : Bool) × (back ≡ Some new) × IsMarkedBy old place new said × (status ≡ (if said then 6 else 5))
+HandsBack old index back status =
+    (new : HandleValue) × (said : Bool) × (back ≡ Some new) × IsMarkedBy old index new said × (status ≡ (if said then 6 else 5))
 
 -- A value of the kind that is to be freed is not returned, and a value of the other kind is.
 abbrev pub IsClosed : Bool → HandleValue → Option HandleValue → Type 0

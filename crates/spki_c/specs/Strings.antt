@@ -25,7 +25,7 @@ octets_at v (n ∷ path) = if_there (slice_get (parts v) n) (λ m. octets_at m p
 pub record StandsIn (text : List ℕ) (there : Option (List ℕ)) (at count : ℕ) : Type 0 where
   pub octets : List ℕ
   pub there_is : there ≡ Some octets
-  pub place : LiesAt text octets at
+  pub offset : LiesAt text octets at
   pub counted : count ≡ length octets
 
 -- where the canonical text of a member begins in that of the list: behind the parenthesis and the members before it
@@ -41,7 +41,7 @@ BeginsAt v (n ∷ path) at = (m : Value) × (inner : ℕ) × (slice_get (parts v
 pub record IsMember (v : Value) (n : ℕ) (m : Value) (at : ℕ) : Type 0 where
   pub is : slice_get (parts v) n ≡ Some m
   pub begins : at ≡ member_at v n
-  pub place : LiesAt (canon v) (canon m) at
+  pub offset : LiesAt (canon v) (canon m) at
 
 -- The text is a value in canonical form within the limits. Either there is such a string, and its octets are in the text, or there is
 -- none.

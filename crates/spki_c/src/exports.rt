@@ -9,7 +9,7 @@ ghost use Rattle.spki_c.specs.Strings.{IsFound, IsNotThere};
 
 use crate::buffer::{hand_over, misused};
 use crate::numbers::{DONE, MISUSED, NO_MEMORY, NONE, REFUSED, command_of, status_number};
-use crate::strings::place_in;
+use crate::strings::span_in;
 use crate::text::Text;
 use sexpr_core::{Doc, FormFault};
 use spki_guard::{Command, answer_text, check_accepted};
@@ -111,10 +111,10 @@ pub extern "C" fn spki_c_string(
         Err(FormFault::Memory) => return NO_MEMORY,
         Err(_) => return REFUSED,
     };
-    match place_in(&document.top(), path) {
-        Some(place) => {
-            *at = place.at;
-            *count = place.length;
+    match span_in(&document.top(), path) {
+        Some(span) => {
+            *at = span.at;
+            *count = span.length;
             DONE
         }
         None => NONE,

@@ -46,14 +46,14 @@ impl HandleValue {
         }
     }
 
-    /// Marks the signature at this place of a question, from 0, as valid, as `OwnedQuestion::mark` does, and returns true. Returns
-    /// false, and changes nothing, if there is no signature at this place, and for a guard.
-    pub(crate) fn mark(&mut self, place: usize) -> bool
-        ensures { IsMarkedBy self.old place self.new result }
+    /// Marks the signature at this index of a question, from 0, as valid, as `OwnedQuestion::mark` does, and returns true. Returns
+    /// false, and changes nothing, if there is no signature at this index, and for a guard.
+    pub(crate) fn mark(&mut self, index: usize) -> bool
+        ensures { IsMarkedBy self.old index self.new result }
     {
         match self {
             HandleValue::Guard(_) => false,
-            HandleValue::Question(opened) => opened.mark(place),
+            HandleValue::Question(opened) => opened.mark(index),
         }
     }
 }

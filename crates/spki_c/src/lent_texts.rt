@@ -2,12 +2,12 @@
 ghost use Rattle.std.specs.Prelude.{◌≡◌, ◌↔◌, IsTrue, IfOk, IfErr, All, map};
 ghost use Rattle.spki_c.specs.{Asking.{IsLent}, Readables.{AreReadable}};
 
-use crate::readable::{Readable, TextPlace};
+use crate::readable::{Readable, TextSpan};
 use crate::text::Text;
 use std::alloc::{AllocError, Global};
 
 /// The most octets that memory can have in one piece.
-const MOST: usize = 9_223_372_036_854_775_807;
+const MAX_SIZE: usize = 9_223_372_036_854_775_807;
 
 /// Why the texts of an array cannot be read.
 pub(crate) enum TextsFault {
@@ -24,7 +24,7 @@ impl Text {
         ensures { (self.new ≡ self.old) × (IsTrue result ↔ IsLent self.old) }
     {
         let count = self.count();
-        count == 0 || (count <= MOST && !self.is_null())
+        count == 0 || (count <= MAX_SIZE && !self.is_null())
     }
 
     /// The octets of the text. It must be lent whole (`is_lent`). The pointer of an empty text is not used, since it may be null.
@@ -37,25 +37,25 @@ impl Text {
     }
 }
 
-/// Returns the texts at `places`, in order: the strings of a request. `readable` has the octets of these texts, for contracts
+/// Returns the texts at `spans`, in order: the strings of a request. `readable` has the octets of these texts, for contracts
 /// alone.
 ///
 /// Err is `Unlent` if one of the texts is not lent whole, otherwise `Memory` if memory ran out. So if memory runs out for a text,
 /// the texts behind it are still tested.
 pub(crate) fn texts_at(
     alloc: Global,
-    places: &[TextPlace],
+    spans: &[TextSpan],
     readable: Readable,
 ) -> Result<Vec<Text>, TextsFault>
-    requires { AreReadable places.now readable.texts }
+    requires { AreReadable spans.now readable.texts }
     ensures read { IfOk result (λ texts. (texts.items ≡ readable.texts) × All IsLent readable.texts) }
     ensures unlent { IfErr result (λ fault. fault ≡ TextsFault.Unlent ↔ ¬ All IsLent readable.texts) }
 {
     let mut readable = readable;
     let mut texts = Vec::new(alloc);
     let mut is_kept = true;
-    for place in places {
-        let mut text = readable.next(*place);
+    for span in spans {
+        let mut text = readable.next(*span);
         if !text.is_lent() {
             return Err(TextsFault::Unlent);
         }

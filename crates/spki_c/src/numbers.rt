@@ -17,13 +17,13 @@ pub const REFUSED: u32 = 2;
 pub const TOO_SMALL: u32 = 4;
 
 /// The call is misused: a number has no meaning, a limit is too high, a text is not lent whole (`Text::is_lent`), a part of a
-/// question is given both ways, a handle is of the other kind, or no signature is at a place that is marked. There is no answer.
+/// question is given both ways, a handle is of the other kind, or no signature is at an index that is marked. There is no answer.
 pub const MISUSED: u32 = 5;
 
 /// The call is done, and is no decision: this status does not say whether a request is granted.
 pub const DONE: u32 = 6;
 
-/// A path leads to no string, or no signature is at a place that is read.
+/// A path leads to no string, or no signature is at an index that is read.
 pub const NONE: u32 = 7;
 
 /// Memory ran out in a call that writes no line. The other calls answer `refused Memory`, with the status `REFUSED`.

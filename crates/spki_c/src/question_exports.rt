@@ -19,7 +19,7 @@ use crate::lent_texts::{TextsFault, texts_at};
 use crate::numbers::{DONE, MISUSED, NO_MEMORY, NONE, REFUSED, query_of, query_status};
 use crate::opening::open_parts;
 use crate::parts::Parts;
-use crate::readable::{Readable, TextPlace};
+use crate::readable::{Readable, TextSpan};
 use crate::signatures::{SignatureTexts, texts_of};
 use spki_guard::{
     AskFault, OpenedAnswer, answer_opened, is_granted, is_possible, refused_question,
@@ -44,7 +44,7 @@ pub extern "C" fn spki_c_guard_ask(
     alloc: Global,
     lent: &mut BorrowedHandle,
     mut parts: Parts,
-    words: &[TextPlace],
+    words: &[TextSpan],
     readable: Readable,
     seconds: &[i64],
     handle: &mut Handle,
@@ -88,7 +88,7 @@ pub extern "C" fn spki_c_guard_ask(
     }
 }
 
-/// The number of signatures that a verifier must decide for the question of `lent`. Their places are counted from 0. Returns 0
+/// The number of signatures that a verifier must decide for the question of `lent`. Their indices are counted from 0. Returns 0
 /// if `lent` is the handle of a guard.
 #[unsafe(no_mangle)]
 pub extern "C" fn spki_c_asked_count(lent: &mut BorrowedHandle) -> usize
@@ -101,29 +101,29 @@ pub extern "C" fn spki_c_asked_count(lent: &mut BorrowedHandle) -> usize
     }
 }
 
-/// Sets `texts` to the key, the message and the value of the signature at this place, from 0, in the question of `lent`, with which the
+/// Sets `texts` to the key, the message and the value of the signature at this index, from 0, in the question of `lent`, with which the
 /// caller verifies it. If the value is one string, `is_string` is true, and `octets` has the string's octets. All point into the question:
 /// nothing is copied. Memory is needed only while the value is read, to find these octets.
 ///
-/// Returns `DONE` (6) if they are set. Otherwise they are unchanged. Returns `NONE` (7) if there is no signature at this place,
+/// Returns `DONE` (6) if they are set. Otherwise they are unchanged. Returns `NONE` (7) if there is no signature at this index,
 /// `NO_MEMORY` (8) if memory ran out, and `MISUSED` (5) if `lent` is the handle of a guard.
 #[unsafe(no_mangle)]
 pub extern "C" fn spki_c_asked_signature<'a>(
     alloc: Global,
     lent: &'a mut BorrowedHandle,
-    place: usize,
+    index: usize,
     texts: &mut SignatureTexts<'a>,
 ) -> u32
-    ensures set { (o : OwnedQuestion) (s : Signed) → lent.entry.now.content ≡ HandleValue.Question o → slice_get o.signed.items place ≡ Some s
+    ensures set { (o : OwnedQuestion) (s : Signed) → lent.entry.now.content ≡ HandleValue.Question o → slice_get o.signed.items index ≡ Some s
         → ((result ≡ 6) × IsSignature s texts.new) ⊎ ((result ≡ 8) × (texts.new ≡ texts.old)) }
-    ensures none { (o : OwnedQuestion) → lent.entry.now.content ≡ HandleValue.Question o → slice_get o.signed.items place ≡ None
+    ensures none { (o : OwnedQuestion) → lent.entry.now.content ≡ HandleValue.Question o → slice_get o.signed.items index ≡ None
         → (result ≡ 7) × (texts.new ≡ texts.old) }
     ensures other { ((o : OwnedQuestion) → lent.entry.now.content ≢ HandleValue.Question o) → (result ≡ 5) × (texts.new ≡ texts.old) }
 {
     let Some(opened) = lent.content().question() else {
         return MISUSED;
     };
-    let Some(signed) = opened.signed().get(place) else {
+    let Some(signed) = opened.signed().get(index) else {
         return NONE;
     };
     match texts_of(alloc, signed) {
@@ -135,24 +135,24 @@ pub extern "C" fn spki_c_asked_signature<'a>(
     }
 }
 
-/// Marks the signature at this place, from 0, as valid: the caller says that a verifier has accepted it. The call takes the
+/// Marks the signature at this index, from 0, as valid: the caller says that a verifier has accepted it. The call takes the
 /// question over from `asked`, to change it, and returns it by `back`. `asked` must own a value before, and `back` nothing.
 ///
-/// Returns `DONE` (6) if the place is marked. Returns `MISUSED` (5) if there is no signature at this place, or `asked` owns a
+/// Returns `DONE` (6) if it is marked. Returns `MISUSED` (5) if there is no signature at this index, or `asked` owns a
 /// guard: then `back` owns the same value, unchanged.
 #[unsafe(no_mangle)]
 pub extern "C" fn spki_c_asked_mark(
     alloc: Global,
     asked: Handle,
-    place: usize,
+    index: usize,
     back: &mut Handle,
 ) -> u32
     requires held { IsSome asked.held }
     requires empty { back.old.held ≡ None }
-    ensures { (c : HandleValue) → asked.held ≡ Some c → HandsBack c place back.new.held result }
+    ensures { (c : HandleValue) → asked.held ≡ Some c → HandsBack c index back.new.held result }
 {
     let mut content = asked.take(alloc).into_box();
-    let is_marked = content.mark(place);
+    let is_marked = content.mark(index);
     back.hold(BoxPointer::of(content));
     if is_marked { DONE } else { MISUSED }
 }

@@ -1,6 +1,6 @@
 //! Arrays of texts that C passes.
 ghost use Rattle.std.specs.{Prelude.{◌≡◌, List, ◌∷◌}, Coded.{coded_list}};
-ghost use Rattle.spki_c.specs.{declared.text.Text.{Text}, contracts.text.Text.{the_row}, Readables.{texts_own, place_of}};
+ghost use Rattle.spki_c.specs.{declared.text.Text.{Text}, contracts.text.Text.{the_row}, Readables.{texts_own, span_of}};
 
 use crate::text::Text;
 use std::marker::Model;
@@ -8,7 +8,7 @@ use std::marker::Model;
 /// A text of an array that C passes: `struct spki_text`. Unlike `Text` it does not say what may be read there: `Readable` does.
 #[derive(Clone, Copy)]
 #[repr(C)]
-pub struct TextPlace {
+pub struct TextSpan {
     /// Where its octets are. The pointer may be null.
     pub at: *const u8,
     /// How many octets the caller states.
@@ -29,15 +29,15 @@ impl Model for Readable {
 }
 
 impl Readable {
-    /// Returns the text at `place`. In contracts it must be the first of `texts`, and is removed from them: so its octets may be
+    /// Returns the text at `span`. In contracts it must be the first of `texts`, and is removed from them: so its octets may be
     /// read. At run time only the pointer and the count are copied.
-    pub(crate) fn next(&mut self, place: TextPlace) -> Text
-        requires { (t : Text) × (ts : List Text) × (self.old.texts ≡ t ∷ ts) × (place ≡ place_of t) }
+    pub(crate) fn next(&mut self, span: TextSpan) -> Text
+        requires { (t : Text) × (ts : List Text) × (self.old.texts ≡ t ∷ ts) × (span ≡ span_of t) }
         ensures { self.old.texts ≡ result ∷ self.new.texts }
     {
         Text {
-            at: place.at,
-            count: place.count,
+            at: span.at,
+            count: span.count,
         }
     }
 }

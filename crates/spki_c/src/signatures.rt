@@ -2,7 +2,7 @@
 ghost use Rattle.std.specs.Prelude.{◌≡◌, IfOk};
 ghost use Rattle.spki_c.specs.Asking.{IsStringOf, IsSignature};
 
-use crate::strings::place_in;
+use crate::strings::span_in;
 use sexpr_core::{Doc, FormFault};
 use spki_guard::OwnedSigned;
 use std::alloc::{AllocError, Global};
@@ -60,8 +60,8 @@ fn string_of<'a>(alloc: Global, value: &'a [u8]) -> Result<Option<&'a [u8]>, All
         Err(FormFault::Memory) => return Err(AllocError),
         Err(_) => return Ok(None),
     };
-    match place_in(&document.top(), &[]) {
-        Some(place) => Ok(Some(&value[place.at..place.at + place.length])),
+    match span_in(&document.top(), &[]) {
+        Some(span) => Ok(Some(&value[span.at..span.at + span.length])),
         None => Ok(None),
     }
 }

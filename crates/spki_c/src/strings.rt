@@ -5,29 +5,29 @@ ghost use Rattle.spki_c.specs.Strings.{parts, octets_of, octets_at, StandsIn, Be
 
 use sexpr_core::syntax::{Node, NodeKind};
 
-/// A place in a text.
+/// A span in a text.
 #[derive(Clone, Copy)]
-pub(crate) struct Place {
+pub(crate) struct Span {
     /// The offset of its first octet, from 0.
     pub(crate) at: usize,
     /// The number of its octets.
     pub(crate) length: usize,
 }
 
-/// The place of a string's octets in the canonical text of a node. That text must have at most 1,048,576 octets, so that no sum of
+/// The span of a string's octets in the canonical text of a node. That text must have at most 1,048,576 octets, so that no sum of
 /// offsets overflows. The path leads from the node to the string: each number is that of the list member to enter, from 0. An empty
 /// path leads to the node itself. None if the path leads to no string.
-pub(crate) fn place_in(node: &Node, path: &[usize]) -> Option<Place>
+pub(crate) fn span_in(node: &Node, path: &[usize]) -> Option<Span>
     requires { length (canon node.now) ≤ 1048576 }
     ensures { MatchOption result (octets_at node.now path.now ≡ None)
         (λ p. StandsIn (canon node.now) (octets_at node.now path.now) p.at p.length × BeginsAt node.now path.now p.at) }
 {
     match path {
-        [] => place_of_octets(node),
+        [] => span_of_octets(node),
         [first, rest @ ..] => {
             let (member, before) = member_of(node, *first)?;
-            let inner = place_in(&member, rest)?;
-            Some(Place {
+            let inner = span_in(&member, rest)?;
+            Some(Span {
                 at: before + inner.at,
                 length: inner.length,
             })
@@ -35,15 +35,15 @@ pub(crate) fn place_in(node: &Node, path: &[usize]) -> Option<Place>
     }
 }
 
-/// The place of a string's octets in the string's own canonical text, which ends with them: in `3:abc` they are 3 octets at 2. None for a list.
-fn place_of_octets(node: &Node) -> Option<Place>
+/// The span of a string's octets in the string's own canonical text, which ends with them: in `3:abc` they are 3 octets at 2. None for a list.
+fn span_of_octets(node: &Node) -> Option<Span>
     ensures { MatchOption result (octets_of node.now ≡ None)
         (λ p. StandsIn (canon node.now) (octets_of node.now) p.at p.length × BeginsAt node.now [] p.at) }
 {
     match node.kind() {
         NodeKind::String { body, .. } => {
             let whole = node.slice().len();
-            Some(Place {
+            Some(Span {
                 at: whole - body.len(),
                 length: body.len(),
             })

@@ -74,8 +74,8 @@ is_found : {X : Type 0} {R : X → X → Ordering} → IsTotalOrder R → (xs : 
     → IsSearchInRange r (length xs) → IsBinarySearchResult (λ y. R y q) xs r → is_ok r ≡ list_any (λ y. is_eq (R y q)) xs
 is_found {R = R} o xs q (Ok i) up bound here =
     sym (any_passes_from_place (λ y. is_eq (R y q)) xs i _ (slice_get-get_or xs i q bound) (ap is_eq (here q)))
-is_found {R = R} o xs q (Err i) up bound place =
-    let parted = place (searchable_from_sorted o (λ y. y) xs q up) in
+is_found {R = R} o xs q (Err i) up bound index =
+    let parted = index (searchable_from_sorted o (λ y. y) xs q up) in
     sym (list_any_none (λ y. is_eq (R y q)) xs (λ k d l.
     ⊎_elim (λ (low : k < i). ap is_eq (parted.0 k d (omega arith) low)) (λ (high : i ≤ k). ap is_eq (parted.1 k d high l)) (cases_lt k i)))
 
@@ -104,7 +104,7 @@ total = search (rules, then_total, on_total, nat_list_cmp_total)
 pub accepts_found : (message : List ℕ) (rows : List code_row.Row) (sorted : List SortedRow) (y : SortedRow) (r : Result ℕ ℕ) → sha256 message ≡ y.0.now
     → AreSorted rows sorted → IsSearchInRange r (length sorted) → IsBinarySearchResult (λ x. compared x y) sorted r
     → is_ok r ≡ accepts (map row_of rows) y.2.now message y.1.now
-accepts_found message rows sorted y r e are bound place =
-    is_found total sorted y r are.ordered bound place
+accepts_found message rows sorted y r e are bound index =
+    is_found total sorted y r are.ordered bound index
     ∙ list_any-mapped (λ x. is_eq (compared x y)) (is_row_of y.2.now message y.1.now) sorted_row (λ x. is_equal message x y e) sorted
     ∙ sym (are.same (is_row_of y.2.now message y.1.now))

@@ -48,7 +48,7 @@ policy-one Open Strict e = absurd (cc)
 policy-one Strict Open e = absurd (cc)
 policy-one p q e = refl
 
--- parts that stand at the same places
+-- parts that stand at the same offsets
 pub record SameParts (p q : Parts) : Type 0 where
   pub acl : acl_value p ≡ acl_value q
   pub rows : p.rows ≡ q.rows
@@ -79,8 +79,8 @@ case-one v c d read other =
     let request = request-one q.request c.request d.request (subst (λ (w : Value). RequestOf w c.request) same.request read.request) other.request in
     let moment = date-one q.at c.moment d.moment (subst (λ (w : Value). DateOf w c.moment) same.at read.moment) other.moment in
     let policy : c.policy ≡ d.policy = read.policy ∙ same.policy ∙ sym other.policy in
-    let limit : c.most_nodes ≡ d.most_nodes = read.limit ∙ sym other.limit in
-    let work : c.most_work ≡ d.most_work = read.work ∙ sym other.work in
+    let limit : c.max_nodes ≡ d.max_nodes = read.limit ∙ sym other.limit in
+    let work : c.max_work ≡ d.max_work = read.work ∙ sym other.work in
     let uncounted : c.uncounted ≡ d.uncounted = read.uncounted ∙ sym other.uncounted in
     λ i. record {
       entries = entries i;
@@ -90,8 +90,8 @@ case-one v c d read other =
       request = request i;
       moment = moment i;
       policy = policy i;
-      most_nodes = limit i;
-      most_work = work i;
+      max_nodes = limit i;
+      max_work = work i;
       uncounted = uncounted i;
     }
 

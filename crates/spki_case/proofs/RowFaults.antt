@@ -98,8 +98,8 @@ case-of p octets (acl, rows, sequence, key, request, at) =
         request = asked.0;
         moment = moment.0;
         policy = p.policy;
-        most_nodes = 1000000;
-        most_work = 2300000000;
+        max_nodes = 1000000;
+        max_work = 2300000000;
         uncounted = 1000000;
       },
       record {

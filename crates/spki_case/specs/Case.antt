@@ -36,7 +36,7 @@ pub record Row : Type 0 where
 
 -- The access list's entries, the signatures that are accepted, the items of the sequence, and the question. The question is
 -- whether the key may do the request at the moment, under the policy. If two tags are intersected, the product of their
--- nodes is at most `most_nodes`. The work of the entries that are folded is together at most `most_work`. An entry is not counted there
+-- nodes is at most `max_nodes`. The work of the entries that are folded is together at most `max_work`. An entry is not counted there
 -- if its chain is small by the limit `uncounted`: `is_spared` of `spki_decision` says when.
 pub record Case : Type 0 where
   pub entries : List Entry
@@ -46,8 +46,8 @@ pub record Case : Type 0 where
   pub request : Request
   pub moment : List ℕ
   pub policy : Policy
-  pub most_nodes : ℕ
-  pub most_work : ℕ
+  pub max_nodes : ℕ
+  pub max_work : ℕ
   pub uncounted : ℕ
 
 -- whether a row has this key, this value and the digest of this message
@@ -247,8 +247,8 @@ pub record CaseOf (v : Value) (c : Case) : Type 0 where
   pub request : RequestOf parts.request c.request
   pub moment : DateOf parts.at c.moment
   pub policy : c.policy ≡ parts.policy
-  pub limit : c.most_nodes ≡ 1000000
-  pub work : c.most_work ≡ 2300000000
+  pub limit : c.max_nodes ≡ 1000000
+  pub work : c.max_work ≡ 2300000000
   pub uncounted : c.uncounted ≡ 1000000
 
 -- ---- refusals

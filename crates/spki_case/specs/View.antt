@@ -26,8 +26,8 @@ model c = record {
   request = c.request;
   moment = c.moment;
   policy = c.policy;
-  most_nodes = c.most_nodes;
-  most_work = c.most_work;
+  max_nodes = c.max_nodes;
+  max_work = c.max_work;
   uncounted = c.uncounted;
 }
 

@@ -69,35 +69,35 @@ pub struct Case<'a> {
     pub policy: Policy,
     /// The greatest product of the numbers of nodes of two tags that are intersected. A node is each string, star, prefix, range, list and
     /// set in a tag. A call that would intersect larger tags fails with `TooLarge`.
-    pub most_nodes: usize,
+    pub max_nodes: usize,
     /// The most work of all entries together that are joined with the certificates, as `spki_reduce::Work` counts it. A call that would
     /// take more fails with `TooLarge`.
-    pub most_work: usize,
+    pub max_work: usize,
     /// A chain, an entry with all certificates, does not count as work if it is small by this limit. It is small if the product of the
     /// numbers of nodes of its tags is at most this. If no tag has a set, it is also small if the number of nodes of all its tags together,
     /// times that of the largest tag of a certificate, is at most this. A definition of a name counts as one node there.
     pub uncounted: usize,
     /// Each certificate is followed by its signature.
     ghost signed: { AreSigned sequence.items },
-    /// `most_nodes` is at most 1,000,000, the limit for any two tags.
-    ghost bounded: { most_nodes ≤ 1000000 },
-    /// A chain that does not count as work is within `most_nodes`.
-    ghost small: { uncounted ≤ most_nodes },
+    /// `max_nodes` is at most 1,000,000, the limit for any two tags.
+    ghost bounded: { max_nodes ≤ 1000000 },
+    /// A chain that does not count as work is within `max_nodes`.
+    ghost small: { uncounted ≤ max_nodes },
 }
 
 /// The greatest product of the numbers of nodes of two tags that are intersected, for a case that is read.
-const MOST_NODES: usize = 1_000_000;
+const MAX_NODES: usize = 1_000_000;
 
 /// The most work of entries whose chains are not small, for a case that is read. 10,000 entries and four certificates for sets of 49 words take
 /// 2,252,000,000.
-const MOST_WORK: usize = 2_300_000_000;
+const MAX_WORK: usize = 2_300_000_000;
 
 impl<'a> Case<'a> {
     ghost use Rattle.spki_case.specs.View.{model};
 
     /// Reads a case from its canonical text. The text contains no limits for intersecting tags, so these fields are constants:
-    /// `most_nodes`, for two tags, and `uncounted`, the size up to which an entry with its certificates does not count as work, are
-    /// 1,000,000 (`MOST_NODES`), and `most_work` is 2,300,000,000 (`MOST_WORK`). A caller who has opened the text as a document calls `of`
+    /// `max_nodes`, for two tags, and `uncounted`, the size up to which an entry with its certificates does not count as work, are
+    /// 1,000,000 (`MAX_NODES`), and `max_work` is 2,300,000,000 (`MAX_WORK`). A caller who has opened the text as a document calls `of`
     /// instead.
     ///
     /// # Errors
@@ -119,7 +119,7 @@ impl<'a> Case<'a> {
 
     /// Reads a case from its node: `(case (acl ..) (accepted ..) (sequence ..) (key K) (request G) (at DATE))`, with or without
     /// `(policy strict)` behind the moment. The value contains no limits for intersecting tags, so these fields are constants:
-    /// `most_nodes` and `uncounted` are `MOST_NODES`, and `most_work` is `MOST_WORK`, as in `read`. Its keys get the digests by which they
+    /// `max_nodes` and `uncounted` are `MAX_NODES`, and `max_work` is `MAX_WORK`, as in `read`. Its keys get the digests by which they
     /// may be compared with hashes (module `digests`); this saves time and changes no answer.
     ///
     /// # Errors
@@ -168,15 +168,15 @@ impl<'a> Case<'a> {
             request,
             moment,
             policy: parts.policy,
-            most_nodes: MOST_NODES,
-            most_work: MOST_WORK,
-            uncounted: MOST_NODES,
+            max_nodes: MAX_NODES,
+            max_work: MAX_WORK,
+            uncounted: MAX_NODES,
         })
     }
 
     /// Makes a case with an empty access list and an empty accepted list, for a question to a separate access list, such as that of a
-    /// guard, which reads its list once. Each certificate in `sequence` must be followed by its signature. `most_nodes`, the limit for two
-    /// tags that are intersected, must be at most 1,000,000. `most_work` is the limit for the work of all entries together. The field
+    /// guard, which reads its list once. Each certificate in `sequence` must be followed by its signature. `max_nodes`, the limit for two
+    /// tags that are intersected, must be at most 1,000,000. `max_work` is the limit for the work of all entries together. The field
     /// `uncounted` is 0: no entry is so small that its work does not count. `algorithms` are those of the hashes in the separate list that
     /// may name keys under the policy. The keys get the digests by which they may be compared with these hashes and with those in the
     /// sequence; this saves time and changes no answer.
@@ -191,12 +191,12 @@ impl<'a> Case<'a> {
         request: Ground,
         moment: Date,
         policy: Policy,
-        most_nodes: usize,
-        most_work: usize,
+        max_nodes: usize,
+        max_work: usize,
         algorithms: Algorithms,
     ) -> Result<Case<'a>, AllocError>
         requires signed { AreSigned sequence.items }
-        requires bounded { most_nodes ≤ 1000000 }
+        requires bounded { max_nodes ≤ 1000000 }
         ensures entries { IfOk result (λ c. c.acl.items ≡ []) }
         ensures rows { IfOk result (λ c. c.accepted.rows.items ≡ []) }
         ensures items { IfOk result (λ c. c.sequence.items ≡ sequence.entry.items) }
@@ -204,8 +204,8 @@ impl<'a> Case<'a> {
         ensures request { IfOk result (λ c. c.request ≡ request) }
         ensures moment { IfOk result (λ c. c.moment ≡ moment) }
         ensures policy { IfOk result (λ c. c.policy ≡ policy) }
-        ensures nodes { IfOk result (λ c. c.most_nodes ≡ most_nodes) }
-        ensures work { IfOk result (λ c. c.most_work ≡ most_work) }
+        ensures nodes { IfOk result (λ c. c.max_nodes ≡ max_nodes) }
+        ensures work { IfOk result (λ c. c.max_work ≡ max_work) }
         ensures counted { IfOk result (λ c. c.uncounted ≡ 0) }
     {
         let accepted = AcceptedTable::new(alloc, Vec::new(alloc))?;
@@ -219,8 +219,8 @@ impl<'a> Case<'a> {
             request,
             moment,
             policy,
-            most_nodes,
-            most_work,
+            max_nodes,
+            max_work,
             uncounted: 0,
         })
     }

@@ -18,8 +18,8 @@ pub(crate) fn digested_items<'a>(
 {
     let algorithms = all_algorithms(algorithms, &items, policy);
     let mut items = items;
-    for place in 0..items.len() {
-        digest_item(&mut items[place], algorithms);
+    for index in 0..items.len() {
+        digest_item(&mut items[index], algorithms);
     }
     items
 }

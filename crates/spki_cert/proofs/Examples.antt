@@ -181,11 +181,11 @@ signed_behind_operation = ((refl, (inl refl, (inr refl, tt))), refl)
 
 -- a key may not be between them
 key_between : AreInPlace false (a_cert ∷ ka ∷ a_signature ∷ []) → ⊥
-key_between places = elim places.1.0 [ inl e ↦ absurd (cc) | inr e ↦ absurd (cc) ]
+key_between indices = elim indices.1.0 [ inl e ↦ absurd (cc) | inr e ↦ absurd (cc) ]
 
 -- nor may a second signature follow the first
 second_signature : AreInPlace false (a_cert ∷ a_signature ∷ a_signature ∷ []) → ⊥
-second_signature places = absurd (let e = places.1.1.0 in cc)
+second_signature indices = absurd (let e = indices.1.1.0 in cc)
 
 -- a signature after a key belongs to no certificate
 stray_signature : HasWrongItem (group (plain (codes "sequence") ∷ ka ∷ a_signature ∷ [])) (record { item = 2; kind = StraySignature })
@@ -198,7 +198,7 @@ stray_signature = record {
     stray = a_signature;
     behind = [];
     begins = record { parts = refl; items = items.Key ka_octets ∷ []; readings = (ka_is_key, tt); in_place = (refl, tt) };
-    place = refl;
+    index = refl;
     signed = refl;
     is_signature = refl;
   }));
@@ -207,11 +207,11 @@ stray_signature = record {
 -- and the number is no other one
 stray_at : (front : List Value) (stray : Value) (behind : List Value) → ka ∷ a_signature ∷ [] ≡ front ++ stray ∷ behind → 1 ≡ length front + 1
     → is_headed (codes "signature") stray ≡ true → ⊥
-stray_at [] stray behind e place is =
+stray_at [] stray behind e index is =
     let same : ka ≡ stray = cc in
     let headed : false ≡ true = ap (is_headed (codes "signature")) same ∙ is in
     absurd (cc)
-stray_at (x ∷ front) stray behind e place is = absurd (omega (arith, place))
+stray_at (x ∷ front) stray behind e index is = absurd (omega (arith, index))
 
 no_stray_key : HasStraySignature (ka ∷ a_signature ∷ []) (record { item = 1; kind = StraySignature }) → ⊥
-no_stray_key h = stray_at h.front h.stray h.behind h.begins.parts h.place h.is_signature
+no_stray_key h = stray_at h.front h.stray h.behind h.begins.parts h.index h.is_signature

@@ -5,13 +5,13 @@ use Rattle.std.specs.{Prelude.{codes, not, is_some, if◌then◌else◌, ◌||�
 use Rattle.sexpr_core.specs.Value.{Value, plain, group, IsNotHeaded}
 use Rattle.spki_tag.specs.{Faults.{first_fault, unless, tag_fault, IsNamed}, Reading.{ReadsAs}, declared.fault.TagFault.{TagFault}}
 use Rattle.spki_cert.specs.declared.{window.Window.{Window}, fault.CertFaultKind.{CertFaultKind, TheVariants.{Shape, Online, Memory}}}
-use Rattle.spki_cert.specs.declared.fields.{FieldValues.{FieldValues}, Place.{Place}}
+use Rattle.spki_cert.specs.declared.fields.{FieldValues.{FieldValues}, Container.{Container}}
 use Rattle.spki_cert.specs.FieldFaults.{sole_fault, unless_none, subject_fault, issuer_fault, date_fault, head_of, has, has_head, is_again, fields_looked, fields_fault, version_fault, limit_fault, time_fault, as_tag, kind_of_tag, entry_field_fault, is_unread, cert_field_fault, is_both_ways}
 use Rattle.spki_cert.specs.Fields.{is_headed, behind_head, contents, Given, Sole, IsLimitField, ValidOf, IsUnread, display, issuer_info, subject_info}
 use Rattle.spki_cert.specs.Inner.Gathering.{IsTagKind, is_word_among, IsNew, AreRead, FieldValuesOf, IsOneWay, IsBothWays, fault_in}
 use Rattle.spki_cert.proofs.HeadedLists.{headed-by, not-headed, head-group, is-group, behind-group, of-form, first-of, one-look, headed-else}
 use Rattle.sexpr_core.specs.Value as sexpr
-use Rattle.spki_cert.specs.declared.fields.Place.TheVariants as places
+use Rattle.spki_cert.specs.declared.fields.Container.TheVariants as containers
 
 -- ---- versions
 
@@ -204,9 +204,9 @@ headless-limit v e = search (rules, limit-by v false, headless)
 headless-entry : (v : Value) → head_of v ≡ None → entry_field_fault v ≡ Some Shape
 headless-entry v e = search (rules, entry-else, headless, time-limit, headless-limit)
 
-headless-field : (place : Place) (v : Value) → head_of v ≡ None → fault_in place v ≡ Some Shape
-headless-field places.Entry v e = headless-entry v e
-headless-field places.Certificate v e = search (rules, cert-else, headless, headless-entry)
+headless-field : (container : Container) (v : Value) → head_of v ≡ None → fault_in container v ≡ Some Shape
+headless-field containers.Entry v e = headless-entry v e
+headless-field containers.Certificate v e = search (rules, cert-else, headless, headless-entry)
 
 -- a list has one head, so a head that is new is this one
 pub new-of : (v w : Value) (heads : List (List ℕ)) (word : List ℕ) → w ≡ v → head_of w ≡ Some word → (head : List ℕ) × IsNew v heads head → IsNew v heads word
@@ -215,16 +215,16 @@ new-of v w heads word e f (head, new) =
     let h : head ≡ word = cc in subst (λ (x : List ℕ). IsNew v heads x) h new
 
 -- a field whose head is not new, or that has none, has the fault Shape
-pub field-not_new : (place : Place) (before : List Value) (heads : List (List ℕ)) (k : FieldValues) (v : Value) → AreRead before heads k
-    → ((head : List ℕ) → IsNew v heads head → ⊥) → first_fault (field_looked (fault_in place) before v) ≡ Some Shape
-field-not_new place before heads k v read none = by (head_of v) refl
+pub field-not_new : (container : Container) (before : List Value) (heads : List (List ℕ)) (k : FieldValues) (v : Value) → AreRead before heads k
+    → ((head : List ℕ) → IsNew v heads head → ⊥) → first_fault (field_looked (fault_in container) before v) ≡ Some Shape
+field-not_new container before heads k v read none = by (head_of v) refl
   where
-    by : (o : Option (List ℕ)) → head_of v ≡ o → first_fault (field_looked (fault_in place) before v) ≡ Some Shape
-    by None e = field-misfit (fault_in place) before v (headless-field place v e)
+    by : (o : Option (List ℕ)) → head_of v ≡ o → first_fault (field_looked (fault_in container) before v) ≡ Some Shape
+    by None e = field-misfit (fault_in container) before v (headless-field container v e)
     by (Some head) e =
         let form = head-group v head e in
         let again = true_from_ne_false (is_word_among heads head) (λ f. none head (record { rest = behind_head v; written = form; fresh = f })) in
-        field-again (fault_in place) before v (again-headed head before v (behind_head v) form ∙ sym (read.heads_are head) ∙ again)
+        field-again (fault_in container) before v (again-headed head before v (behind_head v) form ∙ sym (read.heads_are head) ∙ again)
 
 pub field-is_new : (before : List Value) (heads : List (List ℕ)) (k : FieldValues) (v : Value) (head : List ℕ) → AreRead before heads k → IsNew v heads head
     → is_again before v ≡ false

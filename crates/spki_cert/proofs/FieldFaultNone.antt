@@ -5,7 +5,7 @@ use Rattle.std.specs.{Prelude.{codes, ◌↔◌, not, if◌then◌else◌}, List
 use Rattle.sexpr_core.specs.Value.{Value, plain, group}
 use Rattle.spki_tag.{specs.{Reading.{ReadsAs}, Faults.{first_fault, unless}}, proofs.{Faultless.{tag_none_exactly}, TagReading.{normal-of}}}
 use Rattle.spki_cert.specs.declared.{fault.CertFaultKind.{CertFaultKind, TheVariants.{Shape}}, principal.Principal.{Principal}}
-use Rattle.spki_cert.specs.declared.{window.Window.{Window}, fields.Place.{Place}}
+use Rattle.spki_cert.specs.declared.{window.Window.{Window}, fields.Container.{Container}}
 use Rattle.spki_cert.specs.Fields.{WrittenSubjectOf, IssuerOf, is_headed, behind_head, contents, Sole, Given, IsLimitWord, IsLimitField, ValidOf, IssuerIn, WrittenSubjectIn, IsTimeField, limit, valid, IsField, propagate, tag, time, comment, IsCertField, common, version, issuer, subject, unread, AreFields}
 use Rattle.spki_cert.specs.FieldFaults.{sole_fault, unless_none, date_fault, subject_fault, issuer_fault, is_again, fields_looked, fields_fault, version_fault, limit_fault, time_fault, kind_of_tag, entry_field_fault, is_unread, cert_field_fault}
 use Rattle.spki_cert.specs.{Readings.{DateOf}, Inner.Gathering.{fault_in, IsFieldOf}}
@@ -14,7 +14,7 @@ use Rattle.spki_cert.proofs.FieldFaultLaws.{unread-read, again-headed, version-f
 use Rattle.spki_cert.proofs.HeadedLists.{Reads, headed-by, is-group, unless-none, unless_not-none, none-found, sole-read, sole-none}
 use Rattle.spki_cert.proofs.SubjectFaultNone.{date-none, subject-none, issuer-none}
 use Rattle.sexpr_core.specs.Value as sexpr
-use Rattle.spki_cert.specs.declared.fields.Place.TheVariants as places
+use Rattle.spki_cert.specs.declared.fields.Container.TheVariants as containers
 use Rattle.spki_cert.proofs.FieldFaultLaws as faults
 
 -- ---- versions
@@ -195,6 +195,6 @@ cert_field-none v = (cert_field-read v, cert_field-faultless v)
 pub cert_fields-none : (vs : List Value) → (fields_fault cert_field_fault vs ≡ None) ↔ AreFields IsCertField vs
 cert_fields-none vs = fields-none cert_field_fault IsCertField cert_field-none cert-word vs
 
-pub fields-read : (place : Place) (vs : List Value) → fields_fault (fault_in place) vs ≡ None → AreFields (IsFieldOf place) vs
-fields-read places.Entry vs e = (entry_fields-none vs).0 e
-fields-read places.Certificate vs e = (cert_fields-none vs).0 e
+pub fields-read : (container : Container) (vs : List Value) → fields_fault (fault_in container) vs ≡ None → AreFields (IsFieldOf container) vs
+fields-read containers.Entry vs e = (entry_fields-none vs).0 e
+fields-read containers.Certificate vs e = (cert_fields-none vs).0 e

@@ -57,7 +57,7 @@ once-before word xs v ys once e =
     contents-append word xs (v ∷ ys) ∙ ap (λ (zs : List (List Value)). contents word xs ++ zs) (contents-headed word v ys e) in
     let long : length (contents word (xs ++ v ∷ ys)) ≡ length (contents word xs) + length (behind_head v ∷ contents word ys) =
     ap length all ∙ length-append (contents word xs) (behind_head v ∷ contents word ys) in
-    let most = once word in
+    let single = once word in
     no-length (contents word xs) (omega arith)
 
 pub once-push : (xs : List Value) (v : Value) → AreOnce xs → ((word : List ℕ) → is_headed word v ≡ true → contents word xs ≡ []) → AreOnce (xs ++ v ∷ [])

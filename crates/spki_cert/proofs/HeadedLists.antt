@@ -55,7 +55,7 @@ headed-else word other v rest e f = ap (is_headed other) e ∙ f
 
 -- ---- a walk over members
 
--- the place of a member among all
+-- the index of a member among all
 pub split : (all seen rest others : List Value) (v : Value) → all ≡ seen ++ rest → rest ≡ v ∷ others → all ≡ seen ++ v ∷ others
 split all seen rest others v e f = e ∙ ap (λ (vs : List Value). seen ++ vs) f
 

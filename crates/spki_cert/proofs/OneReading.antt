@@ -117,7 +117,7 @@ entry-one v e f read other =
     let window = window-one other.fields e.window f.window (subst (λ (vs : List Value). WindowOf vs e.window) fields read.window_is) other.window_is in
     λ i. record { subject = who i; propagate = propagate i; tag = tag i; window = window i }
 
--- two readings of several values, place by place, are equal
+-- two readings of several values, one by one, are equal
 items-one : {A : Type 0} (R : Value → A → Type 0) → ((v : Value) (a b : A) → R v a → R v b → a ≡ b)
     → (vs : List Value) (xs ys : List A) → AllZip R vs xs → AllZip R vs ys → xs ≡ ys
 items-one R one [] [] [] read other = refl

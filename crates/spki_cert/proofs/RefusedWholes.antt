@@ -7,11 +7,11 @@ use Rattle.spki_tag.specs.Faults.{first_fault, unless}
 use Rattle.spki_cert.specs.declared.certificate.SeqItem.{SeqItem}
 use Rattle.spki_cert.specs.declared.fault.{CertFault.{CertFault}, CertFaultKind.{CertFaultKind, TheVariants.{Shape, UnsignedCert, StraySignature}}}
 use Rattle.spki_cert.specs.{Fields.{is_headed, behind_head}, FieldFaults.{sole_fault, version_fault}}
-use Rattle.spki_cert.specs.StructureFaults.{IsRefusedAt, entry_fault, at_item, acl_version_fault, outer_fault, entries_fault, acl_fault, behind_version, item_fault, place_fault, waiting, items_looked, items_fault, sequence_fault}
+use Rattle.spki_cert.specs.StructureFaults.{IsRefusedAt, entry_fault, at_item, acl_version_fault, outer_fault, entries_fault, acl_fault, behind_version, item_fault, order_fault, waiting, items_looked, items_fault, sequence_fault}
 use Rattle.spki_cert.specs.RefusedWholes.{HasRefusedEntry, HasOtherVersion, IsNoListOfEntries, BeginsWith, HasRefusedItem, HasStraySignature, GoesOn, HasUnsignedCertificate, HasWrongItem}
 use Rattle.spki_cert.specs.Structures.{EntryOf, BeginsWell, ItemOf, AreInPlace, IsInPlace, waits_behind, waits_after}
 use Rattle.spki_cert.proofs.{HeadedLists.{is-group, one-look, moved}, EntryFaultNone.{entries-refused, outer-read, version-well}}
-use Rattle.spki_cert.proofs.SequenceFaultNone.{item-none, place-read, waits-same}
+use Rattle.spki_cert.proofs.SequenceFaultNone.{item-none, order-read, waits-same}
 
 -- ---- access lists
 
@@ -72,7 +72,7 @@ list-wrong v fault e at = by (is_headed (codes "acl") v) refl e
     -- an entry's number is above 0
     numbered : entries ≡ Some fault → ⊥
     numbered f =
-        let refused = entries-refused (behind_version (behind_head v)) fault f in omega (arith, refused.1.place, at)
+        let refused = entries-refused (behind_version (behind_head v)) fault f in omega (arith, refused.1.index, at)
 
     versioned : (o : Option CertFaultKind) → is_headed (codes "acl") v ≡ true → acl_version_fault (behind_head v) ≡ o
         → first_fault (at_item 0 (first_fault (None ∷ o ∷ [])) ∷ entries ∷ []) ≡ Some fault → IsNoListOfEntries v fault
@@ -92,8 +92,8 @@ list-wrong v fault e at = by (is_headed (codes "acl") v) refl e
 
 in_place-more : (waits : Bool) (front : List Value) (v : Value) → AreInPlace waits front → IsInPlace (waits_after waits front) v
     → AreInPlace waits (front ++ v ∷ [])
-in_place-more waits [] v places place = (place, tt)
-in_place-more waits (x ∷ front) v places place = (places.0, in_place-more (waits_behind waits x) front v places.1 place)
+in_place-more waits [] v indices index = (index, tt)
+in_place-more waits (x ∷ front) v indices index = (indices.0, in_place-more (waits_behind waits x) front v indices.1 index)
 
 waits-more : (waits : Bool) (front : List Value) (v : Value) → waits_after waits (front ++ v ∷ []) ≡ waits_behind (waits_after waits front) v
 waits-more waits [] v = refl
@@ -109,7 +109,7 @@ record WaitsIn (number : ℕ) (front : List Value) : Type 0 where
   pub certificate : Value
   pub operations : List Value
   pub parts : front ≡ before ++ certificate ∷ operations
-  pub place : number ≡ length before + 1
+  pub index : number ≡ length before + 1
   pub is_certificate : is_headed (codes "cert") certificate ≡ true
   pub are_operations : AllByRecursion (λ v. is_headed (codes "do") v ≡ true) operations
 
@@ -151,7 +151,7 @@ module _ (values : List Value) (fault : CertFault) where
         operations = w.operations;
         behind = others;
         begins = subst (λ (xs : List Value). BeginsWith values xs others) w.parts (begins values front others (Some number) e looked);
-        place = sym (ap (λ (x : CertFault). x.item) same) ∙ w.place;
+        index = sym (ap (λ (x : CertFault). x.item) same) ∙ w.index;
         is_certificate = w.is_certificate;
         are_operations = w.are_operations;
         goes_on = on;
@@ -159,31 +159,31 @@ module _ (values : List Value) (fault : CertFault) where
 
   module _ (front behind : List Value) (v : Value) (number : ℕ) (waits : Option ℕ) (e : values ≡ front ++ v ∷ behind)
       (numbered : number ≡ length front + 1) (looked : AreLooked waits front) where
-    refused : (kind : CertFaultKind) → place_fault waits number v ≡ None → item_fault v ≡ Some kind
+    refused : (kind : CertFaultKind) → order_fault waits number v ≡ None → item_fault v ≡ Some kind
         → record { item = number; kind = kind } ≡ fault → HasRefusedItem values fault
-    refused kind place found same = record {
+    refused kind index found same = record {
       front = front;
       refused = v;
       behind = behind;
       begins = begins values front (v ∷ behind) waits e looked;
-      place = sym (ap (λ (x : CertFault). x.item) same) ∙ numbered;
-      in_place = subst (λ (b : Bool). IsInPlace b v) looked.waiting (place-read waits number v place);
+      index = sym (ap (λ (x : CertFault). x.item) same) ∙ numbered;
+      in_place = subst (λ (b : Bool). IsInPlace b v) looked.waiting (order-read waits number v index);
       reason = found ∙ ap (λ (x : CertFault). Some x.kind) same;
       none = λ item read. absurd (let f = sym ((item-none v).1 (item, read)) ∙ found in cc);
     }
 
     -- which certificate is without its signature after one more item
-    waits-then : (item : SeqItem) → ItemOf v item → place_fault waits number v ≡ None → Waits (waiting v waits number) (front ++ v ∷ [])
-    waits-then item read place = by (is_headed (codes "cert") v) (is_headed (codes "signature") v) refl refl
+    waits-then : (item : SeqItem) → ItemOf v item → order_fault waits number v ≡ None → Waits (waiting v waits number) (front ++ v ∷ [])
+    waits-then item read index = by (is_headed (codes "cert") v) (is_headed (codes "signature") v) refl refl
       where
-        still : (o : Option ℕ) → Waits o front → place_fault o number v ≡ None → is_headed (codes "signature") v ≡ false → Waits o (front ++ v ∷ [])
+        still : (o : Option ℕ) → Waits o front → order_fault o number v ≡ None → is_headed (codes "signature") v ≡ false → Waits o (front ++ v ∷ [])
         still None w none not = tt
         still (Some k) w none not = record {
           before = w.before;
           certificate = w.certificate;
           operations = w.operations ++ v ∷ [];
           parts = ap (λ (xs : List Value). xs ++ v ∷ []) w.parts ∙ append_assoc w.before (w.certificate ∷ w.operations) (v ∷ []);
-          place = w.place;
+          index = w.index;
           is_certificate = w.is_certificate;
           are_operations = all-more (λ x. is_headed (codes "do") x ≡ true) w.operations v w.are_operations
               (does (is_headed (codes "signature") v) (is_headed (codes "do") v) not none);
@@ -202,36 +202,36 @@ module _ (values : List Value) (fault : CertFault) where
           certificate = v;
           operations = [];
           parts = refl;
-          place = numbered;
+          index = numbered;
           is_certificate = f;
           are_operations = tt;
         }
         by false true f g = tt
-        by false false f g = still waits looked.waits_in place g
+        by false false f g = still waits looked.waits_in index g
 
-    looked-then : (item : SeqItem) → ItemOf v item → place_fault waits number v ≡ None → AreLooked (waiting v waits number) (front ++ v ∷ [])
-    looked-then item read place = record {
+    looked-then : (item : SeqItem) → ItemOf v item → order_fault waits number v ≡ None → AreLooked (waiting v waits number) (front ++ v ∷ [])
+    looked-then item read index = record {
       items = looked.items ++ item ∷ [];
       readings = all_zipped_more ItemOf front looked.items v item looked.readings read;
-      in_place = in_place-more false front v looked.in_place (subst (λ (b : Bool). IsInPlace b v) looked.waiting (place-read waits number v place));
+      in_place = in_place-more false front v looked.in_place (subst (λ (b : Bool). IsInPlace b v) looked.waiting (order-read waits number v index));
       waiting = waits-same v waits number ∙ ap (λ (b : Bool). waits_behind b v) looked.waiting ∙ sym (waits-more false front v);
-      waits_in = waits-then item read place;
+      waits_in = waits-then item read index;
     }
 
     -- an item that is in its place
-    placed : place_fault waits number v ≡ None → (more : List (Option CertFault)) → first_fault (at_item number (item_fault v) ∷ more) ≡ Some fault
+    placed : order_fault waits number v ≡ None → (more : List (Option CertFault)) → first_fault (at_item number (item_fault v) ∷ more) ≡ Some fault
         → (AreLooked (waiting v waits number) (front ++ v ∷ []) → first_fault more ≡ Some fault → IsWrong values fault) → IsWrong values fault
-    placed place more found later = by (item_fault v) refl found
+    placed index more found later = by (item_fault v) refl found
       where
         by : (o : Option CertFaultKind) → item_fault v ≡ o → first_fault (at_item number o ∷ more) ≡ Some fault → IsWrong values fault
-        by (Some kind) f g = inl (refused kind place f (let same : record { item = number; kind = kind } ≡ fault = cc in same))
-        by None f g = let read = (item-none v).0 f in later (looked-then read.0 read.1 place) g
+        by (Some kind) f g = inl (refused kind index f (let same : record { item = number; kind = kind } ≡ fault = cc in same))
+        by None f g = let read = (item-none v).0 f in later (looked-then read.0 read.1 index) g
 
     -- an item that is not in its place
-    displaced : (other : CertFault) → place_fault waits number v ≡ Some other → other ≡ fault → IsWrong values fault
+    displaced : (other : CertFault) → order_fault waits number v ≡ Some other → other ≡ fault → IsWrong values fault
     displaced other found same = by waits found looked
       where
-        by : (o : Option ℕ) → place_fault o number v ≡ Some other → AreLooked o front → IsWrong values fault
+        by : (o : Option ℕ) → order_fault o number v ≡ Some other → AreLooked o front → IsWrong values fault
         by None f l = inr (inl (stray (is_headed (codes "signature") v) refl f))
           where
             stray : (b : Bool) → is_headed (codes "signature") v ≡ b
@@ -245,7 +245,7 @@ module _ (values : List Value) (fault : CertFault) where
                   stray = v;
                   behind = behind;
                   begins = begins values front (v ∷ behind) None e l;
-                  place = sym (ap (λ (x : CertFault). x.item) whole) ∙ numbered;
+                  index = sym (ap (λ (x : CertFault). x.item) whole) ∙ numbered;
                   signed = sym l.waiting;
                   is_signature = here;
                 }
@@ -266,11 +266,11 @@ module _ (values : List Value) (fault : CertFault) where
   items-wrong (Some k) number front [] e numbered looked found =
       let same : lacking k ≡ fault = cc in inr (inr (unsigned front [] k e looked tt same))
   items-wrong waits number front (v ∷ vs) e numbered looked found =
-      by (place_fault waits number v) refl found
+      by (order_fault waits number v) refl found
       (λ behind more. items-wrong (waiting v waits number) (number + 1) (front ++ v ∷ []) vs (moved values front vs v e)
       (omega (arith, numbered, length-append front (v ∷ []))) behind more)
     where
-      by : (o : Option CertFault) → place_fault waits number v ≡ o
+      by : (o : Option CertFault) → order_fault waits number v ≡ o
           → first_fault (o ∷ at_item number (item_fault v) ∷ items_looked (waiting v waits number) (number + 1) vs) ≡ Some fault
           → (AreLooked (waiting v waits number) (front ++ v ∷ []) → first_fault (items_looked (waiting v waits number) (number + 1) vs) ≡ Some fault → IsWrong values fault)
           → IsWrong values fault
@@ -282,9 +282,9 @@ none-looked = record { items = []; readings = tt; in_place = tt; waiting = refl;
 
 -- the number of the item that is wrong is above 0
 above : (values : List Value) (fault : CertFault) → IsWrong values fault → 0 < fault.item
-above values fault (inl h) = omega (arith, h.place)
-above values fault (inr (inl h)) = omega (arith, h.place)
-above values fault (inr (inr h)) = omega (arith, h.place)
+above values fault (inl h) = omega (arith, h.index)
+above values fault (inr (inl h)) = omega (arith, h.index)
+above values fault (inr (inr h)) = omega (arith, h.index)
 
 items-found : (v : Value) (fault : CertFault) → items_fault (behind_head v) ≡ Some fault → IsWrong (behind_head v) fault
 unfolding items_fault

@@ -10,7 +10,7 @@ use Rattle.spki_cert.specs.declared.certificate.{AuthCert.{AuthCert}, NameCert.{
 use Rattle.spki_cert.specs.declared.certificate_reader.CertParts.{CertParts}
 use Rattle.spki_cert.specs.Fields.{unread, issuer_info, subject_info, WrittenSubjectOf, IssuedTo, is_headed, Sole, Given, IsCertField, common, version, issuer, subject, display, IssuerIn, WrittenSubjectIn, propagates, behind_head}
 use Rattle.spki_cert.specs.Structures.{IssuedBy, IssuedFor, AuthCertOf, NameCertOf, SignatureOf, DoHashOf, ItemOf, SeqOf, IsInPlace, AreInPlace, waits_behind, waits_after}
-use Rattle.spki_cert.specs.StructureFaults.{signature_fault, do_fault, cert_fault, is_hash_word, is_tagged_right, at_item, item_fault, place_fault, waiting, items_looked, items_fault, sequence_fault}
+use Rattle.spki_cert.specs.StructureFaults.{signature_fault, do_fault, cert_fault, is_hash_word, is_tagged_right, at_item, item_fault, order_fault, waiting, items_looked, items_fault, sequence_fault}
 use Rattle.spki_cert.specs.{Readings.{alg_name}, FieldFaults.{is_plain, key_fault}, Inner.Gathering.{PartsOf, parts_fault}}
 use Rattle.spki_cert.proofs.HeadedLists.{Reads, other-head, headed-by, is-group, unless-none, unless_not-none, behind-none, none-found, headed-else}
 use Rattle.spki_cert.proofs.SequenceFaultLaws.{triple-read, triple-form, signature-looks, do-form, parts-tested, cert-looked, tagged-right, right, auth_parts, auth-parts, name_parts, name-parts, do_looked, sequence-items}
@@ -221,11 +221,11 @@ item-none v = (item-read v, λ some. item-faultless v some.0 some.1)
 
 -- ---- items in their places
 
-pub place-read : (waits : Option ℕ) (n : ℕ) (v : Value) → place_fault waits n v ≡ None → IsInPlace (is_some waits) v
-place-read waits n v e = search rules
+pub order-read : (waits : Option ℕ) (n : ℕ) (v : Value) → order_fault waits n v ≡ None → IsInPlace (is_some waits) v
+order-read waits n v e = search rules
 
-place-found : (waits : Option ℕ) (n : ℕ) (v : Value) → IsInPlace (is_some waits) v → place_fault waits n v ≡ None
-place-found waits n v place = search rules
+order-found : (waits : Option ℕ) (n : ℕ) (v : Value) → IsInPlace (is_some waits) v → order_fault waits n v ≡ None
+order-found waits n v order = search rules
 
 pub waits-same : (v : Value) (waits : Option ℕ) (n : ℕ) → is_some (waiting v waits n) ≡ waits_behind (is_some waits) v
 waits-same v waits n = search rules
@@ -237,17 +237,17 @@ pub items-read : (waits : Option ℕ) (n : ℕ) (vs : List Value) → first_faul
 items-read None n [] e = ([], tt, tt, refl)
 items-read (Some k) n [] e = absurd (cc)
 items-read waits n (v ∷ vs) e =
-    let place = none-found (place_fault waits n v) _ e in
-    let looks = none-found (at_item n (item_fault v)) _ place.1 in
+    let order = none-found (order_fault waits n v) _ e in
+    let looks = none-found (at_item n (item_fault v)) _ order.1 in
     let this = item-read v (at-none n (item_fault v) looks.0) in
     let more = subst (λ (b : Bool). SomeItems b vs) (waits-same v waits n) (items-read (waiting v waits n) (n + 1) vs looks.1) in
-    (this.0 ∷ more.0, (this.1, more.1), (place-read waits n v place.0, more.2), more.3)
+    (this.0 ∷ more.0, (this.1, more.1), (order-read waits n v order.0, more.2), more.3)
 
 items-found : (waits : Option ℕ) (n : ℕ) (vs : List Value) → SomeItems (is_some waits) vs → first_fault (items_looked waits n vs) ≡ None
 items-found None n [] some = refl
-items-found waits n (v ∷ vs) (x ∷ xs, zip, places, after) =
-    (λ i. first_fault (place-found waits n v places.0 i ∷ at_item n (item-faultless v x zip.0 i) ∷ items_looked (waiting v waits n) (n + 1) vs))
-    ∙ items-found (waiting v waits n) (n + 1) vs (subst (λ (b : Bool). SomeItems b vs) (sym (waits-same v waits n)) (xs, zip.1, places.1, after))
+items-found waits n (v ∷ vs) (x ∷ xs, zip, orders, after) =
+    (λ i. first_fault (order-found waits n v orders.0 i ∷ at_item n (item-faultless v x zip.0 i) ∷ items_looked (waiting v waits n) (n + 1) vs))
+    ∙ items-found (waiting v waits n) (n + 1) vs (subst (λ (b : Bool). SomeItems b vs) (sym (waits-same v waits n)) (xs, zip.1, orders.1, after))
 items-found waits n vs some = absurd (search rules)
 
 -- ---- sequences

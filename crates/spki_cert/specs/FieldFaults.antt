@@ -10,16 +10,16 @@ use Rattle.spki_cert.specs.declared.fault.CertFaultKind.{CertFaultKind}
 use Rattle.spki_cert.specs.declared.hash.HashAlg.{HashAlg, TheVariants.{Sha1, Sha256, Sha512}}
 use Rattle.spki_cert.specs.{Readings.{digest_len}, Fields.{is_headed, behind_head}}
 
--- ---- what is tested in a list, by place
+-- ---- what is tested in a list, by index
 
--- The places after the head are counted from 0.
+-- The indices after the head are counted from 0.
 
 -- the fault of the first of some values, or that there is none
 abbrev pub of_first : {A : Type 0} → A → (Value → Option A) → List Value → Option A
 of_first missing fault_of [] = Some missing
 of_first missing fault_of (v ∷ vs) = fault_of v
 
--- the fault of the value at a place, or that there is none
+-- the fault of the value at an index, or that there is none
 abbrev pub fault_at : {A : Type 0} → ℕ → A → (Value → Option A) → List Value → Option A
 fault_at n missing fault_of vs = of_first missing fault_of (drop n vs)
 

@@ -50,7 +50,7 @@ pub record HasRefusedItem (values : List Value) (fault : CertFault) : Type 0 whe
   pub refused : Value
   pub behind : List Value
   pub begins : BeginsWith values front (refused ∷ behind)
-  pub place : fault.item ≡ length front + 1
+  pub index : fault.item ≡ length front + 1
   pub in_place : IsInPlace (waits_after false front) refused
   pub reason : item_fault refused ≡ Some fault.kind
   pub none : (item : SeqItem) → ItemOf refused item → ⊥
@@ -62,7 +62,7 @@ pub record HasStraySignature (values : List Value) (fault : CertFault) : Type 0 
   pub stray : Value
   pub behind : List Value
   pub begins : BeginsWith values front (stray ∷ behind)
-  pub place : fault.item ≡ length front + 1
+  pub index : fault.item ≡ length front + 1
   pub signed : waits_after false front ≡ false
   pub is_signature : is_headed (codes "signature") stray ≡ true
 
@@ -79,7 +79,7 @@ pub record HasUnsignedCertificate (values : List Value) (fault : CertFault) : Ty
   pub operations : List Value
   pub behind : List Value
   pub begins : BeginsWith values (front ++ certificate ∷ operations) behind
-  pub place : fault.item ≡ length front + 1
+  pub index : fault.item ≡ length front + 1
   pub is_certificate : is_headed (codes "cert") certificate ≡ true
   pub are_operations : AllByRecursion (λ v. is_headed (codes "do") v ≡ true) operations
   pub goes_on : GoesOn behind

@@ -131,17 +131,17 @@ item_fault v =
 
 -- ---- sequences
 
--- The place of an item is tested before the item itself.
+-- That an item may come where it is, is tested before the item itself.
 
 -- the fault of the certificate that is still without its signature, by its number, if there is one
 abbrev pub unsigned_fault : Option ℕ → Option CertFault
 unsigned_fault None = None
 unsigned_fault (Some item) = Some (record { item = item; kind = UnsignedCert })
 
--- the fault of an item's place: only a do or a signature may follow a certificate without its signature
-abbrev pub place_fault : Option ℕ → ℕ → Value → Option CertFault
-place_fault None number v = if is_headed (codes "signature") v then Some (record { item = number; kind = StraySignature }) else None
-place_fault (Some item) number v =
+-- the fault of the order of items: only a do or a signature may follow a certificate without its signature
+abbrev pub order_fault : Option ℕ → ℕ → Value → Option CertFault
+order_fault None number v = if is_headed (codes "signature") v then Some (record { item = number; kind = StraySignature }) else None
+order_fault (Some item) number v =
     if is_headed (codes "signature") v || is_headed (codes "do") v then None else Some (record { item = item; kind = UnsignedCert })
 
 -- the certificate that is still without its signature after an item with this number
@@ -149,13 +149,13 @@ abbrev pub waiting : Value → Option ℕ → ℕ → Option ℕ
 waiting v before number =
     if is_headed (codes "cert") v then Some number else if is_headed (codes "signature") v then None else before
 
--- What is tested in items, if `waits` is the certificate that is still without its signature. For each item it is its
--- place, and then the item itself. At the end it is whether a certificate is without its signature. The first item has this
+-- What is tested in items, if `waits` is the certificate that is still without its signature. For each item it is whether
+-- it may come there, and then the item itself. At the end it is whether a certificate is without its signature. The first item has this
 -- number.
 abbrev pub items_looked : Option ℕ → ℕ → List Value → List (Option CertFault)
 items_looked waits number [] = unsigned_fault waits ∷ []
 items_looked waits number (v ∷ vs) =
-    place_fault waits number v ∷ at_item number (item_fault v) ∷ items_looked (waiting v waits number) (number + 1) vs
+    order_fault waits number v ∷ at_item number (item_fault v) ∷ items_looked (waiting v waits number) (number + 1) vs
 
 -- the items after the head, from 1
 unfoldable pub items_fault : List Value → Option CertFault
@@ -172,7 +172,7 @@ pub record IsRefusedAt {A : Type 0} (ItemOf : Value → A → Type 0) (vs : List
   pub front : List Value
   pub behind : List Value
   pub parts : vs ≡ front ++ refused ∷ behind
-  pub place : item ≡ length front + 1
+  pub index : item ≡ length front + 1
   pub before : List A
   pub readings : AllZip ItemOf front before
   pub none : (a : A) → ItemOf refused a → ⊥

@@ -11,7 +11,7 @@ ghost use Rattle.spki_cert.specs.declared.entry.Subject as subjects;
 
 use crate::entry::{Entry, Subject};
 use crate::fault::{CertFault, CertFaultKind};
-use crate::fields::{FieldValues, Fields, Place, fields_of};
+use crate::fields::{Container, FieldValues, Fields, fields_of};
 use crate::items::push_read;
 use crate::principal::Principal;
 use crate::principal_reader::{WrittenSubject, written_subject_of};
@@ -57,7 +57,7 @@ pub fn entry_of<'a>(alloc: Global, node: &Node<'_, 'a>) -> Result<Entry<'a>, Cer
         return Err(CertFaultKind::Shape);
     };
     let subject = entry_subject(alloc, &subject)?;
-    let Fields { propagate, known } = fields_of(alloc, Place::Entry, rest)?;
+    let Fields { propagate, known } = fields_of(alloc, Container::Entry, rest)?;
     let FieldValues {
         issuer,
         subject: who,
@@ -65,7 +65,7 @@ pub fn entry_of<'a>(alloc: Global, node: &Node<'_, 'a>) -> Result<Entry<'a>, Cer
         limits,
         valid,
     } = known;
-    // `Place::Entry` admits no field `issuer` or `subject`, so both are None.
+    // `Container::Entry` admits no field `issuer` or `subject`, so both are None.
     drop((issuer, who));
     let Some(window) = window_of_limits(limits, valid) else {
         drop((subject, tag));

@@ -7,7 +7,7 @@ ghost use Rattle.spki_cert.specs.{StructureFaults.{cert_fault}, Inner.Gathering.
 use crate::certificate::{AuthCert, NameCert, SeqItem};
 use crate::entry::Subject;
 use crate::fault::CertFaultKind;
-use crate::fields::{FieldValues, Fields, Place, fields_of};
+use crate::fields::{Container, FieldValues, Fields, fields_of};
 use crate::octets::Octets;
 use crate::principal::Principal;
 use crate::principal_reader::{Issuer, WrittenSubject};
@@ -54,7 +54,7 @@ fn parts_of<'a>(alloc: Global, members: Members<'_, 'a>) -> Result<CertParts<'a>
     ensures found { IfOk result (λ parts. PartsOf members.entry parts) }
     ensures named { IfErr result (λ kind. kind ≢ CertFaultKind.Memory → parts_fault members.entry ≡ Some kind) }
 {
-    let Fields { propagate, known } = fields_of(alloc, Place::Certificate, members)?;
+    let Fields { propagate, known } = fields_of(alloc, Container::Certificate, members)?;
     let FieldValues {
         issuer,
         subject,

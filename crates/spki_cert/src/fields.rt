@@ -22,9 +22,9 @@ use sexpr_core::syntax::{Members, Node};
 use spki_tag::{Tag, TagFault};
 use std::alloc::Global;
 
-/// Where the fields are: in an entry or in a certificate. A certificate may have all fields of an entry, and more.
+/// What the fields are in: an entry or a certificate. A certificate may have all fields of an entry, and more.
 #[derive(Clone, Copy)]
-pub(crate) enum Place {
+pub(crate) enum Container {
     Entry,
     Certificate,
 }
@@ -230,20 +230,20 @@ fn is_unread(field: &HeadedList) -> bool
     }
 }
 
-/// Reads a field of an entry or of a certificate, as `place` says. Err is the fault of the field. If no field there has this head, it is
+/// Reads a field of an entry or of a certificate, as `container` says. Err is the fault of the field. If no field there has this head, it is
 /// `Online` for the head `online`, otherwise `Shape`. It is `Memory` if memory ran out.
 fn field_value<'a>(
     alloc: Global,
-    place: Place,
+    container: Container,
     field: &HeadedList<'_, 'a>,
 ) -> Result<FieldValue<'a>, CertFaultKind>
     ensures says { IfOk result (λ said. FieldValueOf field.now said) }
-    ensures faultless { IfOk result (λ _. fault_in place field.now ≡ None) }
-    ensures named { IfErr result (λ kind. kind ≢ CertFaultKind.Memory → fault_in place field.now ≡ Some kind) }
+    ensures faultless { IfOk result (λ _. fault_in container field.now ≡ None) }
+    ensures named { IfErr result (λ kind. kind ≢ CertFaultKind.Memory → fault_in container field.now ≡ Some kind) }
 {
-    match place {
-        Place::Entry => read_common_field(alloc, field),
-        Place::Certificate => read_certificate_field(alloc, field),
+    match container {
+        Container::Entry => read_common_field(alloc, field),
+        Container::Certificate => read_certificate_field(alloc, field),
     }
 }
 
@@ -302,20 +302,20 @@ fn unrepeated_field<'d, 'a>(field: &Node<'d, 'a>, heads: &[Octets]) -> Option<He
     }
 }
 
-/// Reads `members`, the fields of an entry or of a certificate, as `place` says, and puts their contents into `known`, which must be empty.
+/// Reads `members`, the fields of an entry or of a certificate, as `container` says, and puts their contents into `known`, which must be empty.
 /// Returns whether one of them is `(propagate)`. Err is the first fault: `Shape` if a field has no head or that of a field before it,
 /// otherwise the fault of the field, as `field_value` says. It is `Memory` if memory ran out. On an error `known` keeps what was read before
 /// the fault, and the caller frees it.
 fn read_fields<'a>(
     alloc: Global,
-    place: Place,
+    container: Container,
     members: Members<'_, 'a>,
     known: &mut FieldValues<'a>,
 ) -> Result<bool, CertFaultKind>
     requires { FieldValuesOf [] known.old }
     ensures found { IfOk result (λ propagate. (propagate ≡ propagates members.entry) × FieldValuesOf members.entry known.new) }
-    ensures faultless { IfOk result (λ _. fields_fault (fault_in place) members.entry ≡ None) }
-    ensures named { IfErr result (λ kind. kind ≢ CertFaultKind.Memory → fields_fault (fault_in place) members.entry ≡ Some kind) }
+    ensures faultless { IfOk result (λ _. fields_fault (fault_in container) members.entry ≡ None) }
+    ensures named { IfErr result (λ kind. kind ≢ CertFaultKind.Memory → fields_fault (fault_in container) members.entry ≡ Some kind) }
 {
     let mut rest = members;
     let mut heads = Vec::new(alloc);
@@ -323,7 +323,7 @@ fn read_fields<'a>(
         let Some(list) = unrepeated_field(&field, &heads) else {
             return Err(CertFaultKind::Shape);
         };
-        let said = field_value(alloc, place, &list)?;
+        let said = field_value(alloc, container, &list)?;
         known.add(said);
         heads.push(Octets::new(list.head()))?;
         rest = others;
@@ -331,21 +331,21 @@ fn read_fields<'a>(
     Ok(is_word_among(&heads, b"propagate"))
 }
 
-/// Reads `members`, all fields of an entry or of a certificate, as `place` says. Fields may be in any order. A missing field is no fault
+/// Reads `members`, all fields of an entry or of a certificate, as `container` says. Fields may be in any order. A missing field is no fault
 /// here; its content is None. Err is the first fault: that of a field, `Shape` for a field without a head, or for a head that occurs twice
 /// or that no field there has (`Online` for `(online ..)`), or `Memory` if memory ran out.
 pub(crate) fn fields_of<'a>(
     alloc: Global,
-    place: Place,
+    container: Container,
     members: Members<'_, 'a>,
 ) -> Result<Fields<'a>, CertFaultKind>
     ensures found { IfOk result (λ fields. (fields.propagate ≡ propagates members.entry) × FieldValuesOf members.entry fields.known) }
-    ensures are_fields { IfOk result (λ _. AreFields (IsFieldOf place) members.entry) }
-    ensures faultless { IfOk result (λ _. fields_fault (fault_in place) members.entry ≡ None) }
-    ensures named { IfErr result (λ kind. kind ≢ CertFaultKind.Memory → fields_fault (fault_in place) members.entry ≡ Some kind) }
+    ensures are_fields { IfOk result (λ _. AreFields (IsFieldOf container) members.entry) }
+    ensures faultless { IfOk result (λ _. fields_fault (fault_in container) members.entry ≡ None) }
+    ensures named { IfErr result (λ kind. kind ≢ CertFaultKind.Memory → fields_fault (fault_in container) members.entry ≡ Some kind) }
 {
     let mut known = FieldValues::none();
-    match read_fields(alloc, place, members, &mut known) {
+    match read_fields(alloc, container, members, &mut known) {
         Ok(propagate) => Ok(Fields { propagate, known }),
         Err(kind) => {
             drop(known);

@@ -97,16 +97,16 @@ impl<'a> Names<'a> {
         }
     }
 
-    /// The name at a place, from 0. The place must be below `len`. The vector `front` is in reverse: a place in it counts from its end.
-    pub fn at(&self, place: usize) -> &Octets<'a>
-        requires { place < length self.now }
-        ensures { slice_get self.now place ≡ Some result.now }
+    /// The name at an index, from 0. The index must be below `len`. The vector `front` is in reverse: an index in it counts from its end.
+    pub fn at(&self, index: usize) -> &Octets<'a>
+        requires { index < length self.now }
+        ensures { slice_get self.now index ≡ Some result.now }
     {
         let put = self.front.len();
-        if place < put {
-            &self.front[put - 1 - place]
+        if index < put {
+            &self.front[put - 1 - index]
         } else {
-            &kept(&self.read, self.gone)[place - put]
+            &kept(&self.read, self.gone)[index - put]
         }
     }
 

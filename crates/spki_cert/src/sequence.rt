@@ -3,7 +3,7 @@
 ghost use Rattle.std.specs.{Prelude.{◌≡◌, ◌≢◌, ◌∷◌, ◌+◌, IsSome, IfSome, IfOk, IfErr, List, Some, None, is_some, false}, List.{AllZip}};
 ghost use Rattle.sexpr_core.specs.Value.{Value, node};
 ghost use Rattle.spki_cert.specs.{Fields.{is_headed}, Structures.{ItemOf, IsInPlace, AreInPlace, waits_after, SeqOf}};
-ghost use Rattle.spki_cert.specs.StructureFaults.{place_fault, waiting, items_fault, sequence_fault, item_fault};
+ghost use Rattle.spki_cert.specs.StructureFaults.{order_fault, waiting, items_fault, sequence_fault, item_fault};
 ghost use Rattle.spki_cert.specs.declared.certificate.SeqItem as spec;
 
 use crate::certificate::SeqItem;
@@ -50,9 +50,9 @@ fn item_of<'a>(alloc: Global, node: &Node<'_, 'a>) -> Result<SeqItem<'a>, CertFa
 /// its signature, or None if there is no such certificate. Err is `StraySignature`, with the number of this item, if it is a signature and
 /// `waits` is None. It is `UnsignedCert`, with the number of the certificate, if the item is neither a signature nor an operation and `waits` is
 /// Some.
-fn check_place(node: &Node, waits: Option<usize>, number: usize) -> Result<(), CertFault>
-    ensures faultless { IfOk result (λ _. place_fault waits number node.now ≡ None) }
-    ensures named { IfErr result (λ fault. place_fault waits number node.now ≡ Some fault) }
+fn check_order(node: &Node, waits: Option<usize>, number: usize) -> Result<(), CertFault>
+    ensures faultless { IfOk result (λ _. order_fault waits number node.now ≡ None) }
+    ensures named { IfErr result (λ fault. order_fault waits number node.now ≡ Some fault) }
 {
     let signature = is_headed(node, b"signature");
     let Some(item) = waits else {
@@ -76,7 +76,7 @@ fn check_place(node: &Node, waits: Option<usize>, number: usize) -> Result<(), C
 }
 
 /// The number of the certificate that is still without its signature after this item, or None. `before` is that number before the item, and
-/// `number` the number of the item itself. If the item is a certificate, `before` is None, because `check_place` refuses the item
+/// `number` the number of the item itself. If the item is a certificate, `before` is None, because `check_order` refuses the item
 /// otherwise.
 fn waiting(node: &Node, before: Option<usize>, number: usize) -> Option<usize>
     ensures { result ≡ waiting node.now before number }
@@ -106,7 +106,7 @@ fn items_of<'a>(alloc: Global, members: Members<'_, 'a>) -> Result<Vec<SeqItem<'
     let mut waits = None;
     while let Some((member, others)) = rest.split_first() {
         let item = items.len() + 1;
-        check_place(&member, waits, item)?;
+        check_order(&member, waits, item)?;
         push_read(&mut items, item_of(alloc, &member))?;
         waits = waiting(&member, waits, item);
         rest = others;

@@ -18,22 +18,22 @@ use Rattle.spki_cert.specs.declared.certificate.SeqItem.TheVariants as items
 
 -- ---- lists
 
--- of two lists that are related place by place, an element of the first has a related one at its place in the second
-zipped_at : {A B : Type 0} (R : A → B → Type 0) (xs : List A) (ys : List B) (place : ℕ) (x : A) → AllZip R xs ys → slice_get xs place ≡ Some x
-    → (y : B) × (slice_get ys place ≡ Some y) × R x y
-zipped_at R [] ys place x zip stands = absurd (none-some x stands)
-zipped_at R (z ∷ xs) [] place x zip stands = absurd zip
+-- of two lists whose members are related in pairs, an element of the first has a related one at its index in the second
+zipped_at : {A B : Type 0} (R : A → B → Type 0) (xs : List A) (ys : List B) (index : ℕ) (x : A) → AllZip R xs ys → slice_get xs index ≡ Some x
+    → (y : B) × (slice_get ys index ≡ Some y) × R x y
+zipped_at R [] ys index x zip stands = absurd (none-some x stands)
+zipped_at R (z ∷ xs) [] index x zip stands = absurd zip
 zipped_at R (z ∷ xs) (y ∷ ys) zero x zip stands = (y, refl, subst (λ w. R w y) (same_Some z x stands) zip.0)
-zipped_at R (z ∷ xs) (y ∷ ys) (suc place) x zip stands = zipped_at R xs ys place x zip.1 stands
+zipped_at R (z ∷ xs) (y ∷ ys) (suc index) x zip stands = zipped_at R xs ys index x zip.1 stands
 
 -- ---- items that are certificates
 
 abbrev pub shown_at : ℕ → Certificate → List SeqItem → Shown
 shown_at number certificate behind = record { item = number; certificate = certificate; signature = signature_in behind }
 
--- the certificate at a place among the certificates is that of an item
+-- the certificate at an index among the certificates is that of an item
 abbrev StandsAt : ℕ → List SeqItem → ℕ → Certificate → ℕ → Type 0
-StandsAt n sequence place x p = slice_get (certificates_from n sequence) p ≡ Some (shown_at (n + place) x (drop (suc place) sequence))
+StandsAt n sequence index x p = slice_get (certificates_from n sequence) p ≡ Some (shown_at (n + index) x (drop (suc index) sequence))
 
 -- the first item
 stood_first : (n : ℕ) (item : SeqItem) (sequence : List SeqItem) (x : Certificate) → item ≡ item_of x → StandsAt n (item ∷ sequence) 0 x 0
@@ -58,32 +58,32 @@ behind_first n (items.Key octets) sequence p = let same : 0 + p ≡ p = omega ar
 behind_first n (items.DoHash alg) sequence p = let same : 0 + p ≡ p = omega arith in rw same refl
 behind_first n (items.Signature s) sequence p = let same : 0 + p ≡ p = omega arith in rw same refl
 
-stood_more : (n : ℕ) (item : SeqItem) (sequence : List SeqItem) (place : ℕ) (x : Certificate) (p : ℕ) → StandsAt (suc n) sequence place x p
-    → StandsAt n (item ∷ sequence) (suc place) x (count item + p)
-stood_more n item sequence place x p stands =
-    let moved : suc n + place ≡ n + suc place = omega arith in
-    behind_first n item sequence p ∙ stands ∙ ap (λ (m : ℕ). Some (shown_at m x (drop (suc place) sequence))) moved
+stood_more : (n : ℕ) (item : SeqItem) (sequence : List SeqItem) (index : ℕ) (x : Certificate) (p : ℕ) → StandsAt (suc n) sequence index x p
+    → StandsAt n (item ∷ sequence) (suc index) x (count item + p)
+stood_more n item sequence index x p stands =
+    let moved : suc n + index ≡ n + suc index = omega arith in
+    behind_first n item sequence p ∙ stands ∙ ap (λ (m : ℕ). Some (shown_at m x (drop (suc index) sequence))) moved
 
 -- an item that is a certificate is among the certificates
-pub stood : (n : ℕ) (sequence : List SeqItem) (place : ℕ) (x : Certificate) → slice_get sequence place ≡ Some (item_of x)
-    → (p : ℕ) × StandsAt n sequence place x p
-stood n [] place x stands = absurd (none-some (item_of x) stands)
+pub stood : (n : ℕ) (sequence : List SeqItem) (index : ℕ) (x : Certificate) → slice_get sequence index ≡ Some (item_of x)
+    → (p : ℕ) × StandsAt n sequence index x p
+stood n [] index x stands = absurd (none-some (item_of x) stands)
 stood n (item ∷ sequence) zero x stands = (0, stood_first n item sequence x (same_Some item (item_of x) stands))
-stood n (item ∷ sequence) (suc place) x stands =
-    let later = stood (suc n) sequence place x stands in (count item + later.0, stood_more n item sequence place x later.0 later.1)
+stood n (item ∷ sequence) (suc index) x stands =
+    let later = stood (suc n) sequence index x stands in (count item + later.0, stood_more n item sequence index x later.0 later.1)
 
 -- two of them stand there in their order
-record Both (n : ℕ) (sequence : List SeqItem) (place later : ℕ) (x y : Certificate) : Type 0 where
+record Both (n : ℕ) (sequence : List SeqItem) (index later : ℕ) (x y : Certificate) : Type 0 where
   pub first : ℕ
   pub second : ℕ
   pub ordered : first < second
-  pub here : StandsAt n sequence place x first
+  pub here : StandsAt n sequence index x first
   pub there : StandsAt n sequence later y second
 
-both : (n : ℕ) (sequence : List SeqItem) (place later : ℕ) (x y : Certificate) → place < later
-    → slice_get sequence place ≡ Some (item_of x) → slice_get sequence later ≡ Some (item_of y) → Both n sequence place later x y
-both n [] place later x y less here there = absurd (none-some (item_of x) here)
-both n (item ∷ sequence) place zero x y less here there = absurd (omega (arith, less))
+both : (n : ℕ) (sequence : List SeqItem) (index later : ℕ) (x y : Certificate) → index < later
+    → slice_get sequence index ≡ Some (item_of x) → slice_get sequence later ≡ Some (item_of y) → Both n sequence index later x y
+both n [] index later x y less here there = absurd (none-some (item_of x) here)
+both n (item ∷ sequence) index zero x y less here there = absurd (omega (arith, less))
 both n (item ∷ sequence) zero (suc later) x y less here there =
     let is : item ≡ item_of x = same_Some item (item_of x) here in
     let one : count item ≡ 1 = ap count is ∙ counted x in
@@ -95,13 +95,13 @@ both n (item ∷ sequence) zero (suc later) x y less here there =
       here = stood_first n item sequence x is;
       there = stood_more n item sequence later y s.0 s.1;
     }
-both n (item ∷ sequence) (suc place) (suc later) x y less here there =
-    let b = both (suc n) sequence place later x y (omega (arith, less)) here there in
+both n (item ∷ sequence) (suc index) (suc later) x y less here there =
+    let b = both (suc n) sequence index later x y (omega (arith, less)) here there in
     record {
       first = count item + b.first;
       second = count item + b.second;
       ordered = omega (arith, b.ordered);
-      here = stood_more n item sequence place x b.first b.here;
+      here = stood_more n item sequence index x b.first b.here;
       there = stood_more n item sequence later y b.second b.there;
     }
 
@@ -138,12 +138,12 @@ module _ (policy : Policy) (keys : List (List ℕ)) (verified : Verified) where
       let later = listed shown ts p s zip.1 stands in
       (later.0, later.1, rw (stands_asked policy keys verified x zip.0.holder zip.0.stands) later.2)
 
-pub signed_by_issuer : (c : Case) (verified : Verified) (n place : ℕ) (x : Certificate) → Granted n c verified
-    → slice_get c.items place ≡ Some (item_of x) → IsSignedByIssuer c verified (suc place) x (drop (suc place) c.items)
-signed_by_issuer c verified n place x g stands =
-    let at = stood 1 c.items place x stands in
+pub signed_by_issuer : (c : Case) (verified : Verified) (n index : ℕ) (x : Certificate) → Granted n c verified
+    → slice_get c.items index ≡ Some (item_of x) → IsSignedByIssuer c verified (suc index) x (drop (suc index) c.items)
+signed_by_issuer c verified n index x g stands =
+    let at = stood 1 c.items index x stands in
     let own = listed c.policy (keys_of c.items) verified (certificates c.items) g.tuples at.0 _ g.shown at.1 in
-    let number : 1 + place ≡ suc place = omega arith in
+    let number : 1 + index ≡ suc index = omega arith in
     record {
       signature = own.1.signature;
       follows = own.1.signed;
@@ -153,7 +153,7 @@ signed_by_issuer c verified n place x g stands =
       issuer = issuer_named c.policy (keys_of c.items) (issuer_of x) own.0 own.1.issued;
       signer = own.1.signer;
       accepted = own.1.accepted;
-      place = at.0;
+      index = at.0;
       stands = at.1 ∙ (λ i. Some (record { item = number i; certificate = x; signature = own.1.signed i }));
       listed = own.2 ∙ ap (λ (m : ℕ). Some (record { item = m; key = own.0; message = octets_of x; value = own.1.signature.value })) number;
     }
@@ -161,11 +161,11 @@ signed_by_issuer c verified n place x g stands =
 -- ---- no amplification
 
 -- if all parts of all tuples pass a test, so do those of each tuple
-each_part : {A : Type 0} (parts : Tuple → List A) (test : A → Bool) (ts : List Tuple) (place : ℕ) (t : Tuple)
-    → list_all test (flat_map parts ts) ≡ true → slice_get ts place ≡ Some t → list_all test (parts t) ≡ true
-each_part parts test [] place t all stands = absurd (none-some t stands)
-each_part parts test (u ∷ ts) place t all stands =
-    by place stands (and_parts (list_all test (parts u)) (list_all test (flat_map parts ts)) (sym (list_all-append test (parts u) (flat_map parts ts)) ∙ all))
+each_part : {A : Type 0} (parts : Tuple → List A) (test : A → Bool) (ts : List Tuple) (index : ℕ) (t : Tuple)
+    → list_all test (flat_map parts ts) ≡ true → slice_get ts index ≡ Some t → list_all test (parts t) ≡ true
+each_part parts test [] index t all stands = absurd (none-some t stands)
+each_part parts test (u ∷ ts) index t all stands =
+    by index stands (and_parts (list_all test (parts u)) (list_all test (flat_map parts ts)) (sym (list_all-append test (parts u) (flat_map parts ts)) ∙ all))
     (λ k later e. each_part parts test ts k t e later)
   where
     by : (p : ℕ) → slice_get (u ∷ ts) p ≡ Some t → (list_all test (parts u) ≡ true) × (list_all test (flat_map parts ts) ≡ true)
@@ -180,42 +180,42 @@ module _ (policy : Policy) (holder : List ℕ) where
   left_over t m (four x) j e = sym (ap (λ (r : FiveTuple). r.delegation) j.result_is) ∙ e
 
   -- an authorization before another one may be delegated
-  pub delegated_before : (ts : List Tuple) (t : FiveTuple) → Leads policy ts holder t → (place : ℕ) (u : FiveTuple)
-      → slice_get ts place ≡ Some (five u) → t.delegation ≡ true
-  delegated_before [] t leads place u stands = absurd (none-some (five u) stands)
+  pub delegated_before : (ts : List Tuple) (t : FiveTuple) → Leads policy ts holder t → (index : ℕ) (u : FiveTuple)
+      → slice_get ts index ≡ Some (five u) → t.delegation ≡ true
+  delegated_before [] t leads index u stands = absurd (none-some (five u) stands)
   delegated_before (x ∷ ts) t leads zero u stands =
       let g = (leads_first policy holder t x ts).0 leads in
       let j = subst (λ (y : Tuple). Joins policy (five t) y (five g.0)) (same_Some x (five u) stands) g.1 in
       j.allowed
-  delegated_before (x ∷ ts) t leads (suc place) u stands =
+  delegated_before (x ∷ ts) t leads (suc index) u stands =
       let g = (leads_first policy holder t x ts).0 leads in
-      left_over t g.0 x g.1 (delegated_before ts g.0 g.2 place u stands)
+      left_over t g.0 x g.1 (delegated_before ts g.0 g.2 index u stands)
 
   -- an authorization among the tuples that comes before another one may be delegated too
-  pub delegated_between : (ts : List Tuple) (t : FiveTuple) → Leads policy ts holder t → (place later : ℕ) (u v : FiveTuple) → place < later
-      → slice_get ts place ≡ Some (five u) → slice_get ts later ≡ Some (five v) → u.delegation ≡ true
-  delegated_between [] t leads place later u v less here there = absurd (none-some (five u) here)
-  delegated_between (x ∷ ts) t leads place zero u v less here there = absurd (omega (arith, less))
+  pub delegated_between : (ts : List Tuple) (t : FiveTuple) → Leads policy ts holder t → (index later : ℕ) (u v : FiveTuple) → index < later
+      → slice_get ts index ≡ Some (five u) → slice_get ts later ≡ Some (five v) → u.delegation ≡ true
+  delegated_between [] t leads index later u v less here there = absurd (none-some (five u) here)
+  delegated_between (x ∷ ts) t leads index zero u v less here there = absurd (omega (arith, less))
   delegated_between (x ∷ ts) t leads zero (suc later) u v less here there =
       let g = (leads_first policy holder t x ts).0 leads in
       let j = subst (λ (y : Tuple). Joins policy (five t) y (five g.0)) (same_Some x (five u) here) g.1 in
       sym (ap (λ (r : FiveTuple). r.delegation) j.result_is) ∙ delegated_before ts g.0 g.2 later v there
-  delegated_between (x ∷ ts) t leads (suc place) (suc later) u v less here there =
+  delegated_between (x ∷ ts) t leads (suc index) (suc later) u v less here there =
       let g = (leads_first policy holder t x ts).0 leads in
-      delegated_between ts g.0 g.2 place later u v (omega (arith, less)) here there
+      delegated_between ts g.0 g.2 index later u v (omega (arith, less)) here there
 
   -- the tuples before an authorization lead to the key of its issuer
-  led_to : (ts : List Tuple) (t : FiveTuple) → Leads policy ts holder t → (place : ℕ) (u : FiveTuple) → slice_get ts place ≡ Some (five u)
-      → (k : List ℕ) × (u.issuer ≡ key k) × Leads policy (take place ts) k t
-  led_to [] t leads place u stands = absurd (none-some (five u) stands)
+  led_to : (ts : List Tuple) (t : FiveTuple) → Leads policy ts holder t → (index : ℕ) (u : FiveTuple) → slice_get ts index ≡ Some (five u)
+      → (k : List ℕ) × (u.issuer ≡ key k) × Leads policy (take index ts) k t
+  led_to [] t leads index u stands = absurd (none-some (five u) stands)
   led_to (x ∷ ts) t leads zero u stands =
       let g = (leads_first policy holder t x ts).0 leads in
       let j = subst (λ (y : Tuple). Joins policy (five t) y (five g.0)) (same_Some x (five u) stands) g.1 in
       (j.issues.holder, j.issues.issued, (leads_alone policy j.issues.holder t).1 j.issues.is_for)
-  led_to (x ∷ ts) t leads (suc place) u stands =
+  led_to (x ∷ ts) t leads (suc index) u stands =
       let g = (leads_first policy holder t x ts).0 leads in
-      let later = led_to ts g.0 g.2 place u stands in
-      (later.0, later.1, (leads_first policy later.0 t x (take place ts)).1 (g.0, g.1, later.2))
+      let later = led_to ts g.0 g.2 index u stands in
+      (later.0, later.1, (leads_first policy later.0 t x (take index ts)).1 (g.0, g.1, later.2))
 
 -- if all parts of all tuples pass a test, so do those of the first tuples
 front_part : {A : Type 0} (parts : Tuple → List A) (test : A → Bool) (ts : List Tuple) (n : ℕ) → list_all test (flat_map parts ts) ≡ true
@@ -227,15 +227,15 @@ front_part parts test ts n all =
     (sym (ap (list_all test) whole ∙ list_all-append test (flat_map parts (take n ts)) (flat_map parts (drop n ts))) ∙ all)).0
 
 pub have_issuers : (c : Case) (tuples : List Tuple) (e : Entry) → Supported c tuples e → HaveIssuers c tuples e
-have_issuers c tuples e s place t stands =
+have_issuers c tuples e s index t stands =
     let p = passes c tuples e s in
-    let led = led_to c.policy c.key tuples (entry_tuple e) p.leads place t stands in (
+    let led = led_to c.policy c.key tuples (entry_tuple e) p.leads index t stands in (
       led.0,
       led.1,
-      supports (for_key c led.0) (take place tuples) e (record {
+      supports (for_key c led.0) (take index tuples) e (record {
         leads = led.2;
-        asked = (p.asked.0, front_part tags_of (λ tag. contains tag c.request) tuples place p.asked.1);
-        timely = (p.timely.0, front_part windows_of (λ window. within c.moment window) tuples place p.timely.1);
+        asked = (p.asked.0, front_part tags_of (λ tag. contains tag c.request) tuples index p.asked.1);
+        timely = (p.timely.0, front_part windows_of (λ window. within c.moment window) tuples index p.timely.1);
       }),
     )
 
@@ -245,10 +245,10 @@ held_throughout c tuples e s =
     record {
       entry_tag = p.asked.0;
       entry_window = p.timely.0;
-      entry_delegates = λ place t stands. delegated_before c.policy c.key tuples (entry_tuple e) p.leads place t stands;
-      tags = λ place t stands. each_part tags_of (λ tag. contains tag c.request) tuples place (five t) p.asked.1 stands;
-      windows = λ place t stands. each_part windows_of (λ window. within c.moment window) tuples place t p.timely.1 stands;
-      delegates = λ place later t u less here there. delegated_between c.policy c.key tuples (entry_tuple e) p.leads place later t u less here there;
+      entry_delegates = λ index t stands. delegated_before c.policy c.key tuples (entry_tuple e) p.leads index t stands;
+      tags = λ index t stands. each_part tags_of (λ tag. contains tag c.request) tuples index (five t) p.asked.1 stands;
+      windows = λ index t stands. each_part windows_of (λ window. within c.moment window) tuples index t p.timely.1 stands;
+      delegates = λ index later t u less here there. delegated_between c.policy c.key tuples (entry_tuple e) p.leads index later t u less here there;
     }
 
 -- ---- no amplification, for the items of a sequence
@@ -258,7 +258,7 @@ alone : {A : Type 0} (test : A → Bool) (x : A) → list_all test (x ∷ []) �
 alone test x all = (and_parts (test x) true all).0
 
 module _ (c : Case) (verified : Verified) (tuples : List Tuple) (shown : AreShown c.policy verified c.items tuples) where
-  -- the tuple at the place of a certificate among the certificates is that of this certificate
+  -- the tuple at the index of a certificate among the certificates is that of this certificate
   tuple_at : (p number : ℕ) (x : Certificate) (behind : List SeqItem) → slice_get (certificates c.items) p ≡ Some (shown_at number x behind)
       → (holder : List ℕ) × (slice_get tuples p ≡ Some (tuple_of holder x))
   tuple_at p number x behind stands =
@@ -266,11 +266,11 @@ module _ (c : Case) (verified : Verified) (tuples : List Tuple) (shown : AreShow
       (at.2.holder, at.1 ∙ ap Some at.2.tuple_is)
 
   -- each item that is a certificate has a tuple
-  tuple_of_item : (place : ℕ) (x : Certificate) → slice_get c.items place ≡ Some (item_of x)
+  tuple_of_item : (index : ℕ) (x : Certificate) → slice_get c.items index ≡ Some (item_of x)
       → (p : ℕ) × (holder : List ℕ) × (slice_get tuples p ≡ Some (tuple_of holder x))
-  tuple_of_item place x stands =
-      let s = stood 1 c.items place x stands in
-      let t = tuple_at s.0 (1 + place) x (drop (suc place) c.items) s.1 in
+  tuple_of_item index x stands =
+      let s = stood 1 c.items index x stands in
+      let t = tuple_at s.0 (1 + index) x (drop (suc index) c.items) s.1 in
       (s.0, t.0, t.1)
 
   held_by : (e : Entry) → IsHeldThroughout c tuples e → IsHeldByAll c e
@@ -288,10 +288,10 @@ module _ (c : Case) (verified : Verified) (tuples : List Tuple) (shown : AreShow
         held.delegates b.first b.second _ _ b.ordered t.1 u.1;
   }
 
-pub held_by_all : (c : Case) (verified : Verified) (n place : ℕ) (e : Entry) → Granted n c verified → n ≡ suc place
-    → slice_get c.entries place ≡ Some e → IsHeldByAll c e
-held_by_all c verified n place e g number stands =
-    let same_place : g.place ≡ place = (let other = g.numbered in omega arith) in
-    let same : g.entry ≡ e = same_Some g.entry e (sym g.stands ∙ ap (slice_get c.entries) same_place ∙ stands) in
+pub held_by_all : (c : Case) (verified : Verified) (n index : ℕ) (e : Entry) → Granted n c verified → n ≡ suc index
+    → slice_get c.entries index ≡ Some e → IsHeldByAll c e
+held_by_all c verified n index e g number stands =
+    let same_index : g.index ≡ index = (let other = g.numbered in omega arith) in
+    let same : g.entry ≡ e = same_Some g.entry e (sym g.stands ∙ ap (slice_get c.entries) same_index ∙ stands) in
     let supported : Supported c g.tuples e = subst (Supported c g.tuples) same g.supported in
     held_by c verified g.tuples g.shown e (held_throughout c g.tuples e supported)

@@ -91,27 +91,27 @@ each_at p (x ∷ xs) (suc i) d h k = each_at p xs i d (and_parts (p x) (list_all
 -- ---- a certificate in the vector that `certificates_of` returns
 
 module _ {A B : Type 0} (f : A → B) (kept : List A) (i : ℕ) (within : i < length kept) (one : A) (here : one ≡ get_or kept i one) where
-  pub at_place : get_or (map f kept) i (f one) ≡ f one
-  at_place = get_or-map f kept i one (f one) within ∙ ap f (sym here)
+  pub at_index : get_or (map f kept) i (f one) ≡ f one
+  at_index = get_or-map f kept i one (f one) within ∙ ap f (sym here)
 
   pub below : i < length (map f kept)
   below = rw length-map within
 
   stands : slice_get (map f kept) i ≡ Some (f one)
-  stands = slice_get-get_or (map f kept) i (f one) below ∙ ap Some at_place
+  stands = slice_get-get_or (map f kept) i (f one) below ∙ ap Some at_index
 
   pub taken : take (i + 1) (map f kept) ≡ take i (map f kept) ++ f one ∷ []
-  taken = rw at_place at (take_more (map f kept) i (f one) below)
+  taken = rw at_index at (take_more (map f kept) i (f one) below)
 
   pub rest_of : drop i (map f kept) ≡ f one ∷ drop (i + 1) (map f kept)
-  rest_of = search (rules, at_place, drop-cons, below, add-one)
+  rest_of = search (rules, at_index, drop-cons, below, add-one)
 
   pub parted : map f kept ≡ take i (map f kept) ++ f one ∷ drop (i + 1) (map f kept)
   parted = sym (take-append-drop i (map f kept)) ∙ ap (λ rest. take i (map f kept) ++ rest) rest_of
 
   -- a test that all of them pass, this one passes
   pub passes_here : (p : B → Bool) → list_all p (map f kept) ≡ true → p (f one) ≡ true
-  passes_here p all = rw at_place at (each_at p (map f kept) i (f one) all below)
+  passes_here p all = rw at_index at (each_at p (map f kept) i (f one) all below)
 
 module _ (items : List SeqItem) (kept : List ShownCert) (same : map shown_of kept ≡ certificates items)
     (i : ℕ) (within : i < length kept) (one : ShownCert) (here : one ≡ get_or kept i one) where
@@ -137,7 +137,7 @@ module _ (items : List SeqItem) (kept : List ShownCert) (same : map shown_of kep
       after = drop (i + 1) (map shown_of kept);
       parts = sym same ∙ parted shown_of kept i within one here;
       standing = stood (take i (map shown_of kept)) ts h;
-      place = refl;
+      index = refl;
       fails = k;
     }
 
@@ -177,61 +177,61 @@ module _ (verified : Verified) where
 pub granted_openly : (c : Case) (verified : Verified) (n : ℕ) → Granted n (strict c) verified → Granted n (opened c) verified
 granted_openly c verified n g = search (rules, shown_openly, supported_openly)
 
--- ---- what holds of the entries before a place, and of the entry there
+-- ---- what holds of the entries before an index, and of the entry there
 
-module _ (c : Case) (tuples : List Tuple) (place : ℕ) (e : Entry) (stands : slice_get c.entries place ≡ Some e) where
-  -- what holds of all entries before a place and of the entry there holds of all up to it
-  with_this : (P : Entry → Type 0) → P e → ((k : ℕ) (f : Entry) → k < place → slice_get c.entries k ≡ Some f → P f)
-      → (k : ℕ) (f : Entry) → k < place + 1 → slice_get c.entries k ≡ Some f → P f
+module _ (c : Case) (tuples : List Tuple) (index : ℕ) (e : Entry) (stands : slice_get c.entries index ≡ Some e) where
+  -- what holds of all entries before an index and of the entry there holds of all up to it
+  with_this : (P : Entry → Type 0) → P e → ((k : ℕ) (f : Entry) → k < index → slice_get c.entries k ≡ Some f → P f)
+      → (k : ℕ) (f : Entry) → k < index + 1 → slice_get c.entries k ≡ Some f → P f
   with_this P this before = search (rules, slice_get, below_more, same_Some)
 
-  pub not_yet : (grants : Bool) → grants ≡ false → (Supported c tuples e → grants ≡ true) → NoneBefore c tuples place
-      → NoneBefore c tuples (place + 1)
+  pub not_yet : (grants : Bool) → grants ≡ false → (Supported c tuples e → grants ≡ true) → NoneBefore c tuples index
+      → NoneBefore c tuples (index + 1)
   not_yet grants not if_supported before = with_this (λ f. ¬ Supported c tuples f) (λ s. never grants not (if_supported s)) before
 
   -- no chain is too large of the entries up to this one
-  pub small_yet : ¬ TooLargeAt c.most_nodes c.policy (five (entry_tuple e)) tuples → SmallBefore c tuples place → SmallBefore c tuples (place + 1)
-  small_yet small before = with_this (λ f. ¬ TooLargeAt c.most_nodes c.policy (five (entry_tuple f)) tuples) small before
+  pub small_yet : ¬ TooLargeAt c.max_nodes c.policy (five (entry_tuple e)) tuples → SmallBefore c tuples index → SmallBefore c tuples (index + 1)
+  small_yet small before = with_this (λ f. ¬ TooLargeAt c.max_nodes c.policy (five (entry_tuple f)) tuples) small before
 
-  pub found : Supported c tuples e → NoneBefore c tuples place → Names c tuples (Yes (place + 1))
+  pub found : Supported c tuples e → NoneBefore c tuples index → Names c tuples (Yes (index + 1))
   found s before =
-      record { place = place; numbered = omega arith; entry = e; stands = stands; supported = s; none_before = before }
+      record { index = index; numbered = omega arith; entry = e; stands = stands; supported = s; none_before = before }
 
 -- a chain that is too large at a step has too many nodes
-pub is_large : (c : Case) (tuples : List Tuple) (e : Entry) → TooLargeAt c.most_nodes c.policy (five (entry_tuple e)) tuples → IsLarge c tuples e
-is_large c tuples e h = record { at = h; large = large c.most_nodes c.policy (five (entry_tuple e)) tuples h }
+pub is_large : (c : Case) (tuples : List Tuple) (e : Entry) → TooLargeAt c.max_nodes c.policy (five (entry_tuple e)) tuples → IsLarge c tuples e
+is_large c tuples e h = record { at = h; large = large c.max_nodes c.policy (five (entry_tuple e)) tuples h }
 
-either : (c : Case) (tuples : List Tuple) (place : ℕ) (e : Entry)
-    → TooLargeAt c.most_nodes c.policy (five (entry_tuple e)) tuples ⊎ IsOverspent c tuples place e → IsLarge c tuples e ⊎ IsOverspent c tuples place e
-either c tuples place e (inl h) = inl (is_large c tuples e h)
-either c tuples place e (inr h) = inr h
+either : (c : Case) (tuples : List Tuple) (index : ℕ) (e : Entry)
+    → TooLargeAt c.max_nodes c.policy (five (entry_tuple e)) tuples ⊎ IsOverspent c tuples index e → IsLarge c tuples e ⊎ IsOverspent c tuples index e
+either c tuples index e (inl h) = inl (is_large c tuples e h)
+either c tuples index e (inr h) = inr h
 
 -- ---- what entries support with the certificates' tuples is what is granted
 
 module _ (c : Case) (verified : Verified) (tuples : List Tuple) (shown : AreShown c.policy verified c.items tuples) where
-  pub granted : (place : ℕ) (e : Entry) → slice_get c.entries place ≡ Some e → Supported c tuples e → Granted (suc place) c verified
-  granted place e stands s = search rules
+  pub granted : (index : ℕ) (e : Entry) → slice_get c.entries index ≡ Some e → Supported c tuples e → Granted (suc index) c verified
+  granted index e stands s = search rules
 
   pub supported : (n : ℕ) (g : Granted n c verified) → Supported c tuples g.entry
   supported n g = search (rules, one_list)
 
   pub decided : (d : Decision) → Names c tuples d → IsDecision c verified d
   decided (Yes n) h = record {
-    granted = let place = h.numbered in rw place (granted h.place h.entry h.stands h.supported);
-    none_before = λ m below g. h.none_before g.place g.entry (let n_is = h.numbered in let m_is = g.numbered in omega arith) g.stands (supported m g);
+    granted = let index = h.numbered in rw index (granted h.index h.entry h.stands h.supported);
+    none_before = λ m below g. h.none_before g.index g.entry (let n_is = h.numbered in let m_is = g.numbered in omega arith) g.stands (supported m g);
   }
-  decided No h = λ n g. h g.place g.entry g.stands (supported n g)
+  decided No h = λ n g. h g.index g.entry g.stands (supported n g)
 
   pub unrefused : (d : Decision) → SmallUpTo c tuples d → IsUnrefused c verified d
   unrefused d small others also = search (rules, one_list)
 
   pub too_large : HasLarge c tuples → IsTooLarge c verified
   too_large h = record {
-    place = h.place;
+    index = h.index;
     entry = h.entry;
     stands = h.stands;
-    none_granted = λ n below g. h.none_before g.place g.entry (let n_is = g.numbered in omega arith) g.stands (supported n g);
+    none_granted = λ n below g. h.none_before g.index g.entry (let n_is = g.numbered in omega arith) g.stands (supported n g);
     tuples = tuples;
     shown = shown;
-    at = either c tuples h.place h.entry h.at;
+    at = either c tuples h.index h.entry h.at;
   }

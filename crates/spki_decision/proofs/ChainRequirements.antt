@@ -161,7 +161,7 @@ module _ (policy : Policy) (holder : List ℕ) where
 
 -- ---- the code's loops
 
--- the names before a place are the same, and those at it
+-- the names before an index are the same, and those at it
 pub same_more : (xs ys : List (List ℕ)) (n : ℕ) (x y : List ℕ) → slice_get xs n ≡ Some x → slice_get ys n ≡ Some y → x ≡ y
     → take n xs ≡ take n ys → take (n + 1) xs ≡ take (n + 1) ys
 same_more xs ys n x y e f same before =
@@ -171,14 +171,14 @@ same_more xs ys n x y e f same before =
 front_more : (xs : List (List ℕ)) (n : ℕ) (x : List ℕ) → slice_get xs n ≡ Some x → take (n + 1) xs ≡ take n xs ++ x ∷ []
 front_more xs n x e = take_more xs n x (slice_get_within xs n x e) ∙ ap (λ y. take n xs ++ y ∷ []) (get_or_from_slice_get xs n x x e)
 
--- names begin with those in front up to a place, and with the one at it
+-- names begin with those in front up to an index, and with the one at it
 pub begins_more : (names front rest : List (List ℕ)) (n : ℕ) (x : List ℕ) → slice_get front n ≡ Some x → names ≡ take n front ++ rest
     → rest ≡ x ∷ drop 1 rest → names ≡ take (n + 1) front ++ drop 1 rest
 begins_more names front rest n x e begun first =
     begun ∙ ap (λ ns. take n front ++ ns) first ∙ sym (append_assoc (take n front) (x ∷ []) (drop 1 rest))
     ∙ ap (λ ns. ns ++ drop 1 rest) (sym (front_more front n x e))
 
--- names do not begin with those in front if they differ at the next place
+-- names do not begin with those in front if they differ at the next index
 pub begins_not : (names front rest : List (List ℕ)) (n : ℕ) (x : List ℕ) → slice_get front n ≡ Some x → names ≡ take n front ++ rest
     → rest ≢ x ∷ drop 1 rest → (others : List (List ℕ)) → names ≢ front ++ others
 begins_not names front rest n x e begun not others whole =
@@ -225,7 +225,7 @@ begin_from policy steps holder required key_is names_are delegation = search (ru
 -- the last of the steps that are not done
 pub last_of : (steps : List Step) (n i : ℕ) (step : Step) → n < length steps → i ≡ length steps - 1 - n → step ≡ get_or steps i step
     → take (length steps - n) steps ≡ take (length steps - (n + 1)) steps ++ step ∷ []
-last_of steps n i step below place here = search (rules, take_more)
+last_of steps n i step below index here = search (rules, take_more)
 
 -- ---- an entry is supported exactly if three independent tests pass
 

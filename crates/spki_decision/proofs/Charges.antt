@@ -59,14 +59,14 @@ module _ (Is : Entry → ℕ → Type 0) where
 
 -- ---- lists
 
--- the front of a list up to a place, and behind it
-pub parted_at : (xs : List Entry) (place count : ℕ) (x : Entry) → place < count → slice_get xs place ≡ Some x
-    → (behind : List Entry) × (take count xs ≡ take place xs ++ x ∷ behind)
-parted_at [] place count x below stands = absurd (none-some x stands)
-parted_at (y ∷ xs) place zero x below stands = absurd (omega (arith, below))
+-- the front of a list up to an index, and behind it
+pub parted_at : (xs : List Entry) (index count : ℕ) (x : Entry) → index < count → slice_get xs index ≡ Some x
+    → (behind : List Entry) × (take count xs ≡ take index xs ++ x ∷ behind)
+parted_at [] index count x below stands = absurd (none-some x stands)
+parted_at (y ∷ xs) index zero x below stands = absurd (omega (arith, below))
 parted_at (y ∷ xs) zero (suc count) x below stands = (take count xs, ap (λ (z : Entry). z ∷ take count xs) (same_Some y x stands))
-parted_at (y ∷ xs) (suc place) (suc count) x below stands =
-    let (behind, is) = parted_at xs place count x (omega (arith, below)) stands in (behind, ap (λ (zs : List Entry). y ∷ zs) is)
+parted_at (y ∷ xs) (suc index) (suc count) x below stands =
+    let (behind, is) = parted_at xs index count x (omega (arith, below)) stands in (behind, ap (λ (zs : List Entry). y ∷ zs) is)
 
 pub front_of : (xs ys : List Entry) (n : ℕ) → n ≤ length xs → take n (xs ++ ys) ≡ take n xs
 front_of [] ys zero few = refl
@@ -90,16 +90,16 @@ module _ (policy : Policy) (uncounted : ℕ) (tuples : List Tuple) where
   steps_charge e steps here n counted few h (inr k) = grows policy (five (entry_tuple e)) tuples steps (length tuples) here n few h k.1
 
   -- a chain of which no step is reached takes nothing
-  none_reached : (first : Tuple) → ((place : ℕ) → ReachedAt policy first tuples place → ⊥) → (steps : ℕ) → IsWorkOf policy first tuples steps 0
+  none_reached : (first : Tuple) → ((index : ℕ) → ReachedAt policy first tuples index → ⊥) → (steps : ℕ) → IsWorkOf policy first tuples steps 0
   none_reached first none zero = refl
   none_reached first none (suc steps) = (0, 0, none_reached first none steps, inr (none steps, refl), refl)
 
-  no_charge_by : (e : Entry) → ((place : ℕ) → ReachedAt policy (five (entry_tuple e)) tuples place → ⊥) → (b : Bool)
+  no_charge_by : (e : Entry) → ((index : ℕ) → ReachedAt policy (five (entry_tuple e)) tuples index → ⊥) → (b : Bool)
       → is_spared uncounted tuples e.tag ≡ b → IsCharge policy uncounted tuples e 0
   no_charge_by e none true is = inl (is, refl)
   no_charge_by e none false is = inr (is, none_reached (five (entry_tuple e)) none (length tuples))
 
-  pub no_charge : (e : Entry) → ((place : ℕ) → ReachedAt policy (five (entry_tuple e)) tuples place → ⊥) → IsCharge policy uncounted tuples e 0
+  pub no_charge : (e : Entry) → ((index : ℕ) → ReachedAt policy (five (entry_tuple e)) tuples index → ⊥) → IsCharge policy uncounted tuples e 0
   no_charge e none = no_charge_by e none (is_spared uncounted tuples e.tag) refl
 
 -- ---- ticks
@@ -145,47 +145,47 @@ module _ (c : Case) (tuples : List Tuple) where
   IsHere = IsCharge c.policy c.uncounted tuples
 
   -- work that is within its limit is not over it
-  pub not_overspent : (place count : ℕ) (e : Entry) → place < count → slice_get c.entries place ≡ Some e → IsWithinWork c tuples count
-      → IsOverspent c tuples place e → ⊥
-  not_overspent place count e below stands all spent =
-      let (behind, is) = parted_at c.entries place count e below stands in
-      let whole : IsSumOf IsHere (take place c.entries ++ e ∷ behind) all.work =
+  pub not_overspent : (index count : ℕ) (e : Entry) → index < count → slice_get c.entries index ≡ Some e → IsWithinWork c tuples count
+      → IsOverspent c tuples index e → ⊥
+  not_overspent index count e below stands all spent =
+      let (behind, is) = parted_at c.entries index count e below stands in
+      let whole : IsSumOf IsHere (take index c.entries ++ e ∷ behind) all.work =
       subst (λ (xs : List Entry). IsSumOf IsHere xs all.work) is all.is in
-      let (a, b, front, back, sum) = sum_parts IsHere (take place c.entries) (e ∷ behind) all.work whole in
-      let same = one_sum IsHere (one_charge c.policy c.uncounted tuples) (take place c.entries) spent.before a spent.before_is front in
+      let (a, b, front, back, sum) = sum_parts IsHere (take index c.entries) (e ∷ behind) all.work whole in
+      let same = one_sum IsHere (one_charge c.policy c.uncounted tuples) (take index c.entries) spent.before a spent.before_is front in
       let few = steps_charge c.policy c.uncounted tuples e spent.steps spent.here back.0 spent.counted spent.within spent.here_is back.2 in
       omega (arith, same, few, sum, back.4, all.within, spent.over)
 
-  -- The first `place` entries took their work, and `left` may still be done.
-  pub record Spent (place : ℕ) (left : Option ℕ) : Type 0 where
+  -- The first `index` entries took their work, and `left` may still be done.
+  pub record Spent (index : ℕ) (left : Option ℕ) : Type 0 where
     pub work : ℕ
-    pub is : IsEntryWork c tuples place work
-    pub takes : Takes (Some c.most_work) left work
+    pub is : IsEntryWork c tuples index work
+    pub takes : Takes (Some c.max_work) left work
 
   none_of : (es : List Entry) → IsSumOf IsHere (take 0 es) 0
   none_of [] = refl
   none_of (e ∷ es) = refl
 
-  pub none_spent : (left : Option ℕ) → left ≡ Some c.most_work → Spent 0 left
-  none_spent left same = record { work = 0; is = none_of c.entries; takes = none_taken (Some c.most_work) left same }
+  pub none_spent : (left : Option ℕ) → left ≡ Some c.max_work → Spent 0 left
+  none_spent left same = record { work = 0; is = none_of c.entries; takes = none_taken (Some c.max_work) left same }
 
-  pub all_spent : (place : ℕ) (left : Option ℕ) → Spent place left → IsWithinWork c tuples place
-  all_spent place left h = record { work = h.work; is = h.is; within = within_limit c.most_work left h.work h.takes }
+  pub all_spent : (index : ℕ) (left : Option ℕ) → Spent index left → IsWithinWork c tuples index
+  all_spent index left h = record { work = h.work; is = h.is; within = within_limit c.max_work left h.work h.takes }
 
-  module _ (place : ℕ) (e : Entry) (here : slice_get c.entries place ≡ Some e) (old : Option ℕ) (before : Spent place old) where
-    pub one_spent : (new : Option ℕ) (n : ℕ) → IsHere e n → Takes old new n → Spent (place + 1) new
+  module _ (index : ℕ) (e : Entry) (here : slice_get c.entries index ≡ Some e) (old : Option ℕ) (before : Spent index old) where
+    pub one_spent : (new : Option ℕ) (n : ℕ) → IsHere e n → Takes old new n → Spent (index + 1) new
     one_spent new n charge takes =
-        let below = slice_get_within c.entries place e here in
-        let read : get_or c.entries place e ≡ e = get_or_from_slice_get c.entries place e e here in
+        let below = slice_get_within c.entries index e here in
+        let read : get_or c.entries index e ≡ e = get_or_from_slice_get c.entries index e e here in
         record {
           work = before.work + n;
           is = subst (λ (xs : List Entry). IsSumOf IsHere xs (before.work + n))
-              (sym (take_more c.entries place e below ∙ ap (λ (x : Entry). take place c.entries ++ x ∷ []) read))
-              (sum_more IsHere (take place c.entries) e before.work n before.is charge);
-          takes = taken (Some c.most_work) old new before.work n before.takes takes;
+              (sym (take_more c.entries index e below ∙ ap (λ (x : Entry). take index c.entries ++ x ∷ []) read))
+              (sum_more IsHere (take index c.entries) e before.work n before.is charge);
+          takes = taken (Some c.max_work) old new before.work n before.takes takes;
         }
 
-    pub overspent : IsOvercharged c.policy c.uncounted tuples e old → IsOverspent c tuples place e
+    pub overspent : IsOvercharged c.policy c.uncounted tuples e old → IsOverspent c tuples index e
     overspent h = record {
       counted = h.0;
       before = before.work;
@@ -194,7 +194,7 @@ module _ (c : Case) (tuples : List Tuple) where
       within = h.1.within;
       here = h.1.work;
       here_is = h.1.is;
-      over = over (Some c.most_work) old before.work h.1.work before.takes h.1.over;
+      over = over (Some c.max_work) old before.work h.1.work before.takes h.1.over;
     }
 
 -- ---- what is left, also after an error

@@ -35,8 +35,8 @@ paths_append (x ∷ xs) ys = omega (arith, paths_append xs ys)
 pub paths_last : (steps : List Step) (n i : ℕ) (step : Step) → n < length steps → i ≡ length steps - 1 - n → step ≡ get_or steps i step
     → paths_weight (tuples_of (take (length steps - n) steps))
     ≡ paths_weight (tuples_of (take (length steps - (n + 1)) steps)) + path_weight (step_tuple step)
-paths_last steps n i step below place here =
-    let last = ap (λ (xs : List Step). paths_weight (tuples_of xs)) (last_of steps n i step below place here) in
+paths_last steps n i step below index here =
+    let last = ap (λ (xs : List Step). paths_weight (tuples_of xs)) (last_of steps n i step below index here) in
     omega (arith, last, paths_append (take (length steps - (n + 1)) steps) (step ∷ []))
 
 contents_from : (steps : List Step) (i : ℕ) (step : Step) → i < length steps → step ≡ get_or steps i step

@@ -15,7 +15,7 @@ use Rattle.spki_reduce.proofs.Chains.{too_large as large}
 use Rattle.spki_decision.specs.Granted.{IsCharge, IsOvercharged, IsOverspent, IsWithinWork, HasMuchWork, IsFailure, StopsAtItem, HasLargeTags, IsEntryFold, IsDated, EndsAtDate, AreFoldsOf, AreFolds, SmallBefore}
 use Rattle.spki_decision.specs.declared.{certificates.ShownCert.{ShownCert}, evidence.{Evidence.{Evidence}, Stop.{Stop}}}
 use Rattle.spki_decision.specs.declared.reduction.EntryFold.{EntryFold}
-use Rattle.spki_decision.specs.{Requirements.{IsSmallFor, IsSmallWith}, Spared.{nodes_together, most_of_one, has_small_product, is_plain, is_spared}}
+use Rattle.spki_decision.specs.{Requirements.{IsSmallFor, IsSmallWith}, Spared.{nodes_together, max_of_one, has_small_product, is_plain, is_spared}}
 use Rattle.spki_decision.specs.{Judged.{IsEvidence}, CertificateTests.{AreShown, FailsAt, shown_of}}
 use Rattle.spki_decision.proofs.Charges.{Spent, none_spent, all_spent, one_spent, overspent}
 use Rattle.spki_decision.proofs.CertificateTests.{stands_here, small_yet, none_shown, is_large}
@@ -24,33 +24,33 @@ use Rattle.spki_decision.specs.declared.evidence.Evidence.TheVariants as evidenc
 
 -- ---- if each step is small with what is left before it, no step of a chain is too large
 
-module _ (most : ℕ) (tag : Tag) (tuples : List Tuple) where
-  pub small_product : (n : ℕ) → n ≡ nodes_product (all_tags tuples) → nodes tag * n ≤ most → IsSmallFor most tuples tag
+module _ (max_product : ℕ) (tag : Tag) (tuples : List Tuple) where
+  pub small_product : (n : ℕ) → n ≡ nodes_product (all_tags tuples) → nodes tag * n ≤ max_product → IsSmallFor max_product tuples tag
   small_product n counted small = record {
     none_large = λ e is policy l.
-        let over = rw (is, ← counted) at (large most policy (five (entry_tuple e)) tuples l) in omega (arith, over, small);
+        let over = rw (is, ← counted) at (large max_product policy (five (entry_tuple e)) tuples l) in omega (arith, over, small);
   }
 
   -- the intersection of the tag and the tags of the first tuples
   abbrev pub met_so_far : ℕ → Tag
-  met_so_far place = met (tag ∷ all_tags (take place tuples))
+  met_so_far index = met (tag ∷ all_tags (take index tuples))
 
   -- the tags of each of the first tuples and the intersection before it have a small product of nodes
   abbrev pub AreSmallBefore : ℕ → Type 0
   AreSmallBefore count =
-      (place : ℕ) (tuple : Tuple) → place < count → slice_get tuples place ≡ Some tuple → IsSmallWith most (met_so_far place) tuple
+      (index : ℕ) (tuple : Tuple) → index < count → slice_get tuples index ≡ Some tuple → IsSmallWith max_product (met_so_far index) tuple
 
-  apart : (policy : Policy) (root : FiveTuple) (before : Tag) (tuple : Tuple) → TooLargeFor most policy root tuple
-      → most < nodes_product (before ∷ tags_of tuple) → ¬ IsSmallWith most before tuple
+  apart : (policy : Policy) (root : FiveTuple) (before : Tag) (tuple : Tuple) → TooLargeFor max_product policy root tuple
+      → max_product < nodes_product (before ∷ tags_of tuple) → ¬ IsSmallWith max_product before tuple
   apart policy root before (five t) large over small = omega arith
   apart policy root before (four t) large over small = large
 
   -- a step that is too large for an entry with the tag is not small
-  not_small : (e : Entry) → e.tag ≡ tag → (policy : Policy) (l : TooLargeAt most policy (five (entry_tuple e)) tuples)
-      → ¬ IsSmallWith most (met_so_far l.place) l.tuple
+  not_small : (e : Entry) → e.tag ≡ tag → (policy : Policy) (l : TooLargeAt max_product policy (five (entry_tuple e)) tuples)
+      → ¬ IsSmallWith max_product (met_so_far l.index) l.tuple
   not_small e is policy l = search (rules, apart)
 
-  pub all_small : (count : ℕ) → length tuples ≤ count → AreSmallBefore count → IsSmallFor most tuples tag
+  pub all_small : (count : ℕ) → length tuples ≤ count → AreSmallBefore count → IsSmallFor max_product tuples tag
   all_small count whole h = search (rules, slice_get_within, not_small)
 
 -- ---- where no tag has a set, no step of a chain is too large if the sum of all nodes is small enough for each
@@ -70,11 +70,11 @@ left_within t (u ∷ us) h q =
     let rest = left_within (meet t u) us one.plain parts.1 in
     record { plain = rest.plain; few = omega (arith, rest.few, one.few) }
 
-small_with : (most : ℕ) (left : Tag) (m n : ℕ) (tuple : Tuple) → nodes left ≤ m → nodes_product (tags_of tuple) ≤ n → m * n ≤ most
-    → IsSmallWith most left tuple
-small_with most left m n (five t) h k few =
+small_with : (max_product : ℕ) (left : Tag) (m n : ℕ) (tuple : Tuple) → nodes left ≤ m → nodes_product (tags_of tuple) ≤ n → m * n ≤ max_product
+    → IsSmallWith max_product left tuple
+small_with max_product left m n (five t) h k few =
     le_trans (le_trans (mul-le-mul_right (nodes_product t.tags) h) (mul-le-mul_left m k)) few
-small_with most left m n (four t) h k few = tt
+small_with max_product left m n (four t) h k few = tt
 
 -- the nodes of all tags are at most those of all tuples, and those of one tuple at most those of the largest
 all_together : (ts : List Tuple) → nodes_all (tags (all_tags ts)) ≤ nodes_together ts
@@ -82,33 +82,33 @@ all_together [] = omega arith
 all_together (five t ∷ ts) = omega (arith, all_together ts, append-nodes t.tags (all_tags ts))
 all_together (four t ∷ ts) = omega (arith, all_together ts)
 
-at_most : (ts : List Tuple) (place : ℕ) (t : Tuple) → slice_get ts place ≡ Some t → nodes_product (tags_of t) ≤ most_of_one ts
-at_most [] place t stands = absurd (none-some t stands)
+at_most : (ts : List Tuple) (index : ℕ) (t : Tuple) → slice_get ts index ≡ Some t → nodes_product (tags_of t) ≤ max_of_one ts
+at_most [] index t stands = absurd (none-some t stands)
 at_most (u ∷ ts) zero t stands =
     let same : u ≡ t = same_Some u t stands in
-    subst (λ (v : Tuple). nodes_product (tags_of v) ≤ most_of_one (u ∷ ts)) same (omega arith)
-at_most (u ∷ ts) (suc place) t stands = omega (arith, at_most ts place t stands)
+    subst (λ (v : Tuple). nodes_product (tags_of v) ≤ max_of_one (u ∷ ts)) same (omega arith)
+at_most (u ∷ ts) (suc index) t stands = omega (arith, at_most ts index t stands)
 
-module _ (most : ℕ) (tag : Tag) (tuples : List Tuple) (no_set : nests_set tag ≡ false)
+module _ (max_product : ℕ) (tag : Tag) (tuples : List Tuple) (no_set : nests_set tag ≡ false)
     (none_there : some_nests_set (tags (all_tags tuples)) ≡ false) where
-  left_few : (place : ℕ) → nodes (met (tag ∷ all_tags (take place tuples))) ≤ nodes tag + nodes_together tuples
-  left_few place =
-      let front = all_tags (take place tuples) in
-      let back = all_tags (drop place tuples) in
+  left_few : (index : ℕ) → nodes (met (tag ∷ all_tags (take index tuples))) ≤ nodes tag + nodes_together tuples
+  left_few index =
+      let front = all_tags (take index tuples) in
+      let back = all_tags (drop index tuples) in
       let parted : all_tags tuples ≡ front ++ back =
-      ap all_tags (sym (take-append-drop place tuples)) ∙ flat_map-append tags_of (take place tuples) (drop place tuples) in
+      ap all_tags (sym (take-append-drop index tuples)) ∙ flat_map-append tags_of (take index tuples) (drop index tuples) in
       let none_parted = rw (parted, append-sets front back) at none_there in
       let few = rw (parted, append-nodes front back) at (all_together tuples) in
       let left = left_within tag front (inl no_set) (neither (some_nests_set (tags front)) (some_nests_set (tags back)) none_parted).0 in
       omega (arith, left.few, few)
 
-  small_plain : (nodes tag + nodes_together tuples) * most_of_one tuples ≤ most → IsSmallFor most tuples tag
+  small_plain : (nodes tag + nodes_together tuples) * max_of_one tuples ≤ max_product → IsSmallFor max_product tuples tag
   small_plain few =
-      all_small most tag tuples (length tuples) (omega arith) (λ place tuple below there.
-      small_with most (met (tag ∷ all_tags (take place tuples))) (nodes tag + nodes_together tuples) (most_of_one tuples) tuple (left_few place)
-      (at_most tuples place tuple there) few)
+      all_small max_product tag tuples (length tuples) (omega arith) (λ index tuple below there.
+      small_with max_product (met (tag ∷ all_tags (take index tuples))) (nodes tag + nodes_together tuples) (max_of_one tuples) tuple (left_few index)
+      (at_most tuples index tuple there) few)
 
-pub one_at_least : (ts : List Tuple) → 1 ≤ most_of_one ts
+pub one_at_least : (ts : List Tuple) → 1 ≤ max_of_one ts
 one_at_least [] = omega arith
 one_at_least (t ∷ ts) = omega (arith, one_at_least ts)
 
@@ -117,22 +117,22 @@ and_false true = refl
 and_false false = refl
 
 -- a product over 1,000,000 is over each limit
-pub large_product : (most : ℕ) (tag : Tag) (tuples : List Tuple) → most ≤ 1000000 → 1000000 < nodes_product (all_tags tuples)
-    → has_small_product most tuples tag ≡ false
-large_product most tag tuples few large =
+pub large_product : (max_product : ℕ) (tag : Tag) (tuples : List Tuple) → max_product ≤ 1000000 → 1000000 < nodes_product (all_tags tuples)
+    → has_small_product max_product tuples tag ≡ false
+large_product max_product tag tuples few large =
     let some : 1 * nodes_product (all_tags tuples) ≤ nodes tag * nodes_product (all_tags tuples) =
     mul-le-mul_right (nodes_product (all_tags tuples)) (nodes-some tag) in
-    lt-leb (nodes tag * nodes_product (all_tags tuples)) most (omega (arith, few, large, some))
+    lt-leb (nodes tag * nodes_product (all_tags tuples)) max_product (omega (arith, few, large, some))
 
 -- tags are not plain if one has a set, or if all together have over 1,000,000 nodes
-pub not_plain : (most : ℕ) (tag : Tag) (tuples : List Tuple) → most ≤ 1000000
-    → (some_nests_set (tags (all_tags tuples)) ≡ true) ⊎ (1000000 < nodes_together tuples) → is_plain most tuples tag ≡ false
-not_plain most tag tuples few (inl set) =
-    rw set (ap (λ (b : Bool). b && nat_le ((nodes tag + nodes_together tuples) * most_of_one tuples) most) (and_false (not (nests_set tag))))
-not_plain most tag tuples few (inr large) =
+pub not_plain : (max_product : ℕ) (tag : Tag) (tuples : List Tuple) → max_product ≤ 1000000
+    → (some_nests_set (tags (all_tags tuples)) ≡ true) ⊎ (1000000 < nodes_together tuples) → is_plain max_product tuples tag ≡ false
+not_plain max_product tag tuples few (inl set) =
+    rw set (ap (λ (b : Bool). b && nat_le ((nodes tag + nodes_together tuples) * max_of_one tuples) max_product) (and_false (not (nests_set tag))))
+not_plain max_product tag tuples few (inr large) =
     let all = nodes tag + nodes_together tuples in
-    let some : all * 1 ≤ all * most_of_one tuples = mul-le-mul_left all (one_at_least tuples) in
-    let over : nat_le (all * most_of_one tuples) most ≡ false = lt-leb (all * most_of_one tuples) most (omega (arith, few, large, some)) in
+    let some : all * 1 ≤ all * max_of_one tuples = mul-le-mul_left all (one_at_least tuples) in
+    let over : nat_le (all * max_of_one tuples) max_product ≡ false = lt-leb (all * max_of_one tuples) max_product (omega (arith, few, large, some)) in
     let sets = not (nests_set tag) && not (some_nests_set (tags (all_tags tuples))) in
     ap (λ (b : Bool). sets && b) over ∙ and_false sets
 
@@ -141,39 +141,39 @@ or_either true y h = inl refl
 or_either false y h = inr h
 
 -- an entry that is spared has no chain that is too large
-pub spared_small : (most : ℕ) (tuples : List Tuple) (tag : Tag) → is_spared most tuples tag ≡ true → IsSmallFor most tuples tag
+pub spared_small : (max_product : ℕ) (tuples : List Tuple) (tag : Tag) → is_spared max_product tuples tag ≡ true → IsSmallFor max_product tuples tag
 unfolding is_spared
-spared_small most tuples tag spared = elim (or_either (has_small_product most tuples tag) (is_plain most tuples tag) spared) [
-  | inl h ↦ small_product most tag tuples (nodes_product (all_tags tuples)) refl (leb-true _ _ h)
+spared_small max_product tuples tag spared = elim (or_either (has_small_product max_product tuples tag) (is_plain max_product tuples tag) spared) [
+  | inl h ↦ small_product max_product tag tuples (nodes_product (all_tags tuples)) refl (leb-true _ _ h)
   | inr h ↦
-      let parts = and_parts _ (nat_le ((nodes tag + nodes_together tuples) * most_of_one tuples) most) h in
+      let parts = and_parts _ (nat_le ((nodes tag + nodes_together tuples) * max_of_one tuples) max_product) h in
       let sets = and_parts (not (nests_set tag)) _ parts.0 in
-      small_plain most tag tuples (not-true _ sets.0) (not-true _ sets.1) (leb-true _ _ parts.1)
+      small_plain max_product tag tuples (not-true _ sets.0) (not-true _ sets.1) (leb-true _ _ parts.1)
 ]
 
 -- what is too large for a limit is too large for each lower one
-lower : (most other : ℕ) (policy : Policy) (root : FiveTuple) (tuple : Tuple) → other ≤ most → TooLargeFor most policy root tuple
+lower : (max_product other : ℕ) (policy : Policy) (root : FiveTuple) (tuple : Tuple) → other ≤ max_product → TooLargeFor max_product policy root tuple
     → TooLargeFor other policy root tuple
-lower most other policy root (five t) few h = (h.0, omega (arith, few, h.1))
-lower most other policy root (four t) few h = h
+lower max_product other policy root (five t) few h = (h.0, omega (arith, few, h.1))
+lower max_product other policy root (four t) few h = h
 
-too_large_lower : (most other : ℕ) (policy : Policy) (first : Tuple) (others : List Tuple) → other ≤ most
-    → TooLargeAt most policy first others → TooLargeAt other policy first others
-too_large_lower most other policy first others few h = record {
-  place = h.place;
+too_large_lower : (max_product other : ℕ) (policy : Policy) (first : Tuple) (others : List Tuple) → other ≤ max_product
+    → TooLargeAt max_product policy first others → TooLargeAt other policy first others
+too_large_lower max_product other policy first others few h = record {
+  index = h.index;
   tuple = h.tuple;
   stands = h.stands;
   root = h.root;
   before = h.before;
-  too_large = lower most other policy h.root h.tuple few h.too_large;
+  too_large = lower max_product other policy h.root h.tuple few h.too_large;
   met_too_large = omega (arith, few, h.met_too_large);
 }
 
-pub spared : (most uncounted : ℕ) (tuples : List Tuple) (e : Entry) (policy : Policy) → uncounted ≤ most
-    → is_spared uncounted tuples e.tag ≡ true → ¬ TooLargeAt most policy (five (entry_tuple e)) tuples
-spared most uncounted tuples e policy few is large =
+pub spared : (max_product uncounted : ℕ) (tuples : List Tuple) (e : Entry) (policy : Policy) → uncounted ≤ max_product
+    → is_spared uncounted tuples e.tag ≡ true → ¬ TooLargeAt max_product policy (five (entry_tuple e)) tuples
+spared max_product uncounted tuples e policy few is large =
     (spared_small uncounted tuples e.tag is).none_large e refl policy
-    (too_large_lower most uncounted policy (five (entry_tuple e)) tuples few large)
+    (too_large_lower max_product uncounted policy (five (entry_tuple e)) tuples few large)
 
 -- ---- where chains stop, what fails, and the answers of one entry more
 
@@ -187,13 +187,13 @@ module _ (c : Case) (e : Entry) (steps : List Step) (kept : List ShownCert) (sam
   pub stops_at_item : (one : ShownCert) → one ≡ get_or kept (step - 1) one → Excludes c.policy (five (entry_tuple e)) (tuples_of steps) step cause
       → StopsAtItem c (tuples_of steps) e (get_or kept (step - 1) one).item cause
   stops_at_item one here excludes =
-      let place_is : stops.place ≡ step - 1 = (let numbered = stops.numbered in omega arith) in
+      let index_is : stops.index ≡ step - 1 = (let numbered = stops.numbered in omega arith) in
       record {
         step = step;
         stops = stops;
         excludes = excludes;
         certificate = shown_of one;
-        there = ap (slice_get (certificates c.items)) place_is ∙ stands_here c.items kept same (step - 1) stops_within one here;
+        there = ap (slice_get (certificates c.items)) index_is ∙ stands_here c.items kept same (step - 1) stops_within one here;
         item_is = ap (λ s. s.item) (sym here);
       }
 
@@ -202,12 +202,12 @@ no_steps [] e = refl
 no_steps (s ∷ steps) e = absurd cc
 
 -- if joining an entry is refused, its chain is too large, or the work up to it is over the limit
-pub refused_here : (c : Case) (tuples : List Tuple) (place : ℕ) (e : Entry) (here : slice_get c.entries place ≡ Some e) (left : Option ℕ)
-    → Spent c tuples place left
-    → TooLargeAt c.most_nodes c.policy (five (entry_tuple e)) tuples ⊎ IsOvercharged c.policy c.uncounted tuples e left
-    → TooLargeAt c.most_nodes c.policy (five (entry_tuple e)) tuples ⊎ IsOverspent c tuples place e
-refused_here c tuples place e here left before (inl h) = inl h
-refused_here c tuples place e here left before (inr h) = inr (overspent c tuples place e here left before h)
+pub refused_here : (c : Case) (tuples : List Tuple) (index : ℕ) (e : Entry) (here : slice_get c.entries index ≡ Some e) (left : Option ℕ)
+    → Spent c tuples index left
+    → TooLargeAt c.max_nodes c.policy (five (entry_tuple e)) tuples ⊎ IsOvercharged c.policy c.uncounted tuples e left
+    → TooLargeAt c.max_nodes c.policy (five (entry_tuple e)) tuples ⊎ IsOverspent c tuples index e
+refused_here c tuples index e here left before (inl h) = inl h
+refused_here c tuples index e here left before (inr h) = inr (overspent c tuples index e here left before h)
 
 -- ---- evidence
 
@@ -246,19 +246,19 @@ pub all_pushed : {A : Type 0} (P : A → Type 0) (so_far more : List A) (x : A) 
     → more ≡ so_far ++ x ∷ [] → AllByRecursion P more
 all_pushed P so_far more x h k grown = rw grown (push_of P so_far x h k)
 
-pub stands : (c : Case) (items : List Entry) (place : ℕ) (e : Entry) → items ≡ c.entries → place < length items → e ≡ get_or items place e
-    → slice_get c.entries place ≡ Some e
-stands c items place e same below read = rw same at (slice_get-get_or items place e below ∙ ap Some (sym read))
+pub stands : (c : Case) (items : List Entry) (index : ℕ) (e : Entry) → items ≡ c.entries → index < length items → e ≡ get_or items index e
+    → slice_get c.entries index ≡ Some e
+stands c items index e same below read = rw same at (slice_get-get_or items index e below ∙ ap Some (sym read))
 
--- the first `place` entries became these folds, and the limits of their windows are dates
-pub record ArePut (place : ℕ) (folds : List EntryFold) : Type 0 where
-  pub count : length folds ≡ place
+-- the first `index` entries became these folds, and the limits of their windows are dates
+pub record ArePut (index : ℕ) (folds : List EntryFold) : Type 0 where
+  pub count : length folds ≡ index
   pub dated : AllByRecursion IsDated folds
   pub end : AllByRecursion EndsAtDate folds
 
-pub one_put : (place : ℕ) (folds : List EntryFold) (fold : EntryFold) → ArePut place folds → IsDated fold → EndsAtDate fold
-    → ArePut (place + 1) (folds ++ fold ∷ [])
-one_put place folds fold before dated end = record {
+pub one_put : (index : ℕ) (folds : List EntryFold) (fold : EntryFold) → ArePut index folds → IsDated fold → EndsAtDate fold
+    → ArePut (index + 1) (folds ++ fold ∷ [])
+one_put index folds fold before dated end = record {
   count = omega (arith, length-append folds (fold ∷ []), before.count);
   dated = push_of IsDated folds fold before.dated dated;
   end = push_of EndsAtDate folds fold before.end end;
@@ -266,39 +266,39 @@ one_put place folds fold before dated end = record {
 
 module _ (c : Case) (tuples : List Tuple) where
   -- This is what so many entries become. None of their chains is too large at a step, and so much work may still be done.
-  pub record FoldedTo (place : ℕ) (left : Option ℕ) (folds : List EntryFold) : Type 0 where
-    pub each : AllZip (IsEntryFold c tuples) (take place c.entries) folds
-    pub within_limit : SmallBefore c tuples place
-    pub spent : Spent c tuples place left
+  pub record FoldedTo (index : ℕ) (left : Option ℕ) (folds : List EntryFold) : Type 0 where
+    pub each : AllZip (IsEntryFold c tuples) (take index c.entries) folds
+    pub within_limit : SmallBefore c tuples index
+    pub spent : Spent c tuples index left
 
-  pub none_folded : (left : Option ℕ) → left ≡ Some c.most_work → FoldedTo 0 left []
+  pub none_folded : (left : Option ℕ) → left ≡ Some c.max_work → FoldedTo 0 left []
   none_folded left same =
       record { each = tt; within_limit = λ k e below. absurd (omega (arith, below)); spent = none_spent c tuples left same }
 
-  pub all_folded : (place : ℕ) (left : Option ℕ) (folds : List EntryFold) → place ≡ length c.entries → FoldedTo place left folds
+  pub all_folded : (index : ℕ) (left : Option ℕ) (folds : List EntryFold) → index ≡ length c.entries → FoldedTo index left folds
       → AreFoldsOf c tuples folds
-  all_folded place left folds whole h = record {
+  all_folded index left folds whole h = record {
     each = subst (λ xs. AllZip (IsEntryFold c tuples) xs folds) (ap (λ n. take n c.entries) whole ∙ take-length c.entries) h.each;
     within_limit = λ k e below there. h.within_limit k e (omega (arith, whole, below)) there;
-    worked = subst (λ (n : ℕ). IsWithinWork c tuples n) whole (all_spent c tuples place left h.spent);
+    worked = subst (λ (n : ℕ). IsWithinWork c tuples n) whole (all_spent c tuples index left h.spent);
   }
 
-  module _ (place : ℕ) (e : Entry) (here : slice_get c.entries place ≡ Some e) (old : Option ℕ) (folds : List EntryFold)
-      (before : FoldedTo place old folds) where
-    pub too_large_here : TooLargeAt c.most_nodes c.policy (five (entry_tuple e)) tuples ⊎ IsOvercharged c.policy c.uncounted tuples e old
+  module _ (index : ℕ) (e : Entry) (here : slice_get c.entries index ≡ Some e) (old : Option ℕ) (folds : List EntryFold)
+      (before : FoldedTo index old folds) where
+    pub too_large_here : TooLargeAt c.max_nodes c.policy (five (entry_tuple e)) tuples ⊎ IsOvercharged c.policy c.uncounted tuples e old
         → HasLargeTags c tuples ⊎ HasMuchWork c tuples
-    too_large_here (inl h) = inl (record { place = place; entry = e; stands = here; is = is_large c tuples e h })
-    too_large_here (inr h) = inr (record { place = place; entry = e; stands = here; spent = overspent c tuples place e here old before.spent h })
+    too_large_here (inl h) = inl (record { index = index; entry = e; stands = here; is = is_large c tuples e h })
+    too_large_here (inr h) = inr (record { index = index; entry = e; stands = here; spent = overspent c tuples index e here old before.spent h })
 
     pub one_folded : (fold : EntryFold) (new : Option ℕ) (n : ℕ) → IsEntryFold c tuples e fold
-        → ¬ TooLargeAt c.most_nodes c.policy (five (entry_tuple e)) tuples → IsCharge c.policy c.uncounted tuples e n → Takes old new n
-        → FoldedTo (place + 1) new (folds ++ fold ∷ [])
+        → ¬ TooLargeAt c.max_nodes c.policy (five (entry_tuple e)) tuples → IsCharge c.policy c.uncounted tuples e n → Takes old new n
+        → FoldedTo (index + 1) new (folds ++ fold ∷ [])
     one_folded fold new n exact small charge takes =
-        let below = slice_get_within c.entries place e here in
-        let read : get_or c.entries place e ≡ e = get_or_from_slice_get c.entries place e e here in
+        let below = slice_get_within c.entries index e here in
+        let read : get_or c.entries index e ≡ e = get_or_from_slice_get c.entries index e e here in
         record {
-          each = rw (take_more c.entries place e below ∙ ap (λ x. take place c.entries ++ x ∷ []) read)
-              (all_zipped_more (IsEntryFold c tuples) (take place c.entries) folds e fold before.each exact);
-          within_limit = small_yet c tuples place e here small before.within_limit;
-          spent = one_spent c tuples place e here old before.spent new n charge takes;
+          each = rw (take_more c.entries index e below ∙ ap (λ x. take index c.entries ++ x ∷ []) read)
+              (all_zipped_more (IsEntryFold c tuples) (take index c.entries) folds e fold before.each exact);
+          within_limit = small_yet c tuples index e here small before.within_limit;
+          spent = one_spent c tuples index e here old before.spent new n charge takes;
         }

@@ -71,8 +71,8 @@ module _ (verified : Verified) where
     request = ftp;
     moment = codes "2024-01-01_00:00:00";
     policy = Open;
-    most_nodes = 1000000;
-    most_work = 2300000000;
+    max_nodes = 1000000;
+    max_work = 2300000000;
     uncounted = 1000000;
   }
 
@@ -90,9 +90,9 @@ module _ (verified : Verified) where
 
   first_entry : Granted 1 two_entries verified → ⊥
   first_entry g =
-      let zero_is : g.place ≡ 0 = omega arith in
+      let zero_is : g.index ≡ 0 = omega arith in
       let others = entry_for ka true ∷ [] in
-      let entry_is : g.entry ≡ entry_for kc false = first_is (entry_for kc false) others g.place g.entry zero_is g.stands in
+      let entry_is : g.entry ≡ entry_for kc false = first_is (entry_for kc false) others g.index g.entry zero_is g.stands in
       let grants = granted_alone two_entries verified 1 tt g in
       misnamed g.entry entry_is grants.named
 

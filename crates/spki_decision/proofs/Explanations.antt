@@ -92,18 +92,18 @@ some_and (Some x) P h = (x, refl, h)
 
 -- where each entry has its reason, exactly those that are granted have Grants
 module _ (c : Case) (verified : Verified) (tuples : List Tuple) (shown : AreShown c.policy verified c.items tuples)
-    (reasons : List Reason) (each : AllZip (IsReason c tuples) c.entries reasons) (place : ℕ) where
-  has_granted : slice_get reasons place ≡ Some Grants → Granted (suc place) c verified
+    (reasons : List Reason) (each : AllZip (IsReason c tuples) c.entries reasons) (index : ℕ) where
+  has_granted : slice_get reasons index ≡ Some Grants → Granted (suc index) c verified
   has_granted there =
-      let at = some_and (slice_get c.entries place) _ (rw there at (AllZip-right (IsReason c tuples) c.entries reasons each place)) in
-      granted c verified tuples shown place at.0 at.1 at.2
+      let at = some_and (slice_get c.entries index) _ (rw there at (AllZip-right (IsReason c tuples) c.entries reasons each index)) in
+      granted c verified tuples shown index at.0 at.1 at.2
 
-  grants_it : IsRequest c.request → Granted (suc place) c verified → slice_get reasons place ≡ Some Grants
+  grants_it : IsRequest c.request → Granted (suc index) c verified → slice_get reasons index ≡ Some Grants
   grants_it is g =
-      let same : g.place ≡ place = (let n = g.numbered in omega arith) in
-      let stands : slice_get c.entries place ≡ Some g.entry = rw same at g.stands in
-      let at = some_and (slice_get reasons place) _ (rw stands at (AllZip-left (IsReason c tuples) c.entries reasons each place)) in
-      let s = supported c verified tuples shown (suc place) g in
+      let same : g.index ≡ index = (let n = g.numbered in omega arith) in
+      let stands : slice_get c.entries index ≡ Some g.entry = rw same at g.stands in
+      let at = some_and (slice_get reasons index) _ (rw stands at (AllZip-left (IsReason c tuples) c.entries reasons each index)) in
+      let s = supported c verified tuples shown (suc index) g in
       at.1 ∙ ap Some (only_grants c tuples g.entry at.0 is (parted c tuples g.entry at.0 at.2) s)
 
 are_reasons : (c : Case) (verified : Verified) (tuples : List Tuple) (reasons : List Reason) → IsRequest c.request
@@ -132,7 +132,7 @@ module _ (c : Case) (verified : Verified) (reasons : List Reason) (h : AreReason
   named_first d = search (rules, granted)
 
   first_granted : (f : IsFirstGrant reasons n) → Granted n c verified
-  first_granted f = let place_is = f.numbered in rw place_is ((h.grants f.place).0 f.here)
+  first_granted f = let index_is = f.numbered in rw index_is ((h.grants f.index).0 f.here)
 
 one_first : (reasons : List Reason) (m n : ℕ) → IsFirstGrant reasons m → IsFirstGrant reasons n → m < n → ⊥
 one_first reasons m n f g below = search rules
@@ -179,11 +179,11 @@ has_tag holder (name certificate) = tt
 
 module _ (policy : Policy) (keys : List (List ℕ)) (verified : Verified) where
   pub are_tagged : (shown : List Shown) (tuples : List Tuple) → AllZip (PassesTestsAs policy keys verified) shown tuples → AreTagged tuples
-  are_tagged shown [] h place tuple there = absurd cc
-  are_tagged [] (t ∷ ts) h place tuple there = absurd h
+  are_tagged shown [] h index tuple there = absurd cc
+  are_tagged [] (t ∷ ts) h index tuple there = absurd h
   are_tagged (s ∷ shown) (t ∷ ts) h zero tuple there =
       let same : t ≡ tuple = cc in subst HasTag (sym h.0.tuple_is ∙ same) (has_tag h.0.holder s.certificate)
-  are_tagged (s ∷ shown) (t ∷ ts) h (suc place) tuple there = are_tagged shown ts h.1 place tuple there
+  are_tagged (s ∷ shown) (t ∷ ts) h (suc index) tuple there = are_tagged shown ts h.1 index tuple there
 
 module _ (c : Case) (tuples : List Tuple) (tagged : AreTagged tuples) (e : Entry) where
   abbrev first : Tuple
@@ -202,7 +202,7 @@ module _ (c : Case) (tuples : List Tuple) (tagged : AreTagged tuples) (e : Entry
   -- a chain that goes through doesn't stop
   not_stopped : (a : MissingGrant) (item : ℕ) (cause : Cause) → LacksFirst c tuples e a → StopsAtItem c tuples e item cause → ⊥
   not_stopped a item cause h k =
-      let below = slice_get_within tuples k.stops.place k.stops.tuple k.stops.stands in
+      let below = slice_get_within tuples k.stops.index k.stops.tuple k.stops.stands in
       let all = take_all (length tuples) tuples (omega arith) in
       let through : GoesThrough c.policy first tuples h.root = record { derived = h.derived; timely = h.timely; tagged = h.tagged } in
       let i = k.stops.numbered in
@@ -216,8 +216,8 @@ module _ (c : Case) (tuples : List Tuple) (tagged : AreTagged tuples) (e : Entry
       let i = h.stops.numbered in
       let j = k.stops.numbered in
       let steps = both.0 in
-      let places : h.stops.place ≡ k.stops.place = omega arith in
-      let shown : Some h.certificate ≡ Some k.certificate = sym h.there ∙ ap (slice_get (certificates c.items)) places ∙ k.there in
+      let indices : h.stops.index ≡ k.stops.index = omega arith in
+      let shown : Some h.certificate ≡ Some k.certificate = sym h.there ∙ ap (slice_get (certificates c.items)) indices ∙ k.there in
       let certificates_are : h.certificate ≡ k.certificate = cc in
       (h.item_is ∙ ap (λ s. s.item) certificates_are ∙ sym k.item_is, both.1)
 
@@ -235,14 +235,14 @@ module _ (c : Case) (tuples : List Tuple) (tagged : AreTagged tuples) (e : Entry
 
 module _ (c : Case) (tuples : List Tuple) (tagged : AreTagged tuples) where
   each_one : (es : List Entry) (rs ss : List Reason) → AllZip (IsReason c tuples) es rs → AllZip (IsReason c tuples) es ss
-      → ((place : ℕ) → slice_get rs place ≡ Some Grants → slice_get ss place ≡ Some Grants)
-      → ((place : ℕ) → slice_get ss place ≡ Some Grants → slice_get rs place ≡ Some Grants) → rs ≡ ss
+      → ((index : ℕ) → slice_get rs index ≡ Some Grants → slice_get ss index ≡ Some Grants)
+      → ((index : ℕ) → slice_get ss index ≡ Some Grants → slice_get rs index ≡ Some Grants) → rs ≡ ss
   each_one [] [] [] h k there back = refl
   each_one (e ∷ es) (r ∷ rs) (s ∷ ss) h k there back =
       let here : r ≡ s =
       one_reason c tuples tagged e r s (parted c tuples e r h.0) (parted c tuples e s k.0) (λ g. same_Some s Grants (there 0 (ap Some g)))
       (λ g. same_Some r Grants (back 0 (ap Some g))) in
-      let others : rs ≡ ss = each_one es rs ss h.1 k.1 (λ place. there (suc place)) (λ place. back (suc place)) in
+      let others : rs ≡ ss = each_one es rs ss h.1 k.1 (λ index. there (suc index)) (λ index. back (suc index)) in
       cc
   each_one es rs ss h k there back = search
 

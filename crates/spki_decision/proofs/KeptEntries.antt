@@ -22,11 +22,11 @@ module _ (c : Case) (verified : Verified) where
       → Supports c.policy (from_left (five (entry_tuple g.entry)) tuples) c.key c.request c.moment
   granted_from_left n tuples shown g = search (rules, one_list, supported)
 
-  pub from_left_granted : (place : ℕ) (entry : Entry) (tuples : List Tuple)
-      → slice_get c.entries place ≡ Some entry → AreShown c.policy verified c.items tuples
+  pub from_left_granted : (index : ℕ) (entry : Entry) (tuples : List Tuple)
+      → slice_get c.entries index ≡ Some entry → AreShown c.policy verified c.items tuples
       → Supports c.policy (from_left (five (entry_tuple entry)) tuples) c.key c.request c.moment
-      → Granted (suc place) c verified
-  from_left_granted place entry tuples stands shown s = search (rules, granted, from_left-leaves)
+      → Granted (suc index) c verified
+  from_left_granted index entry tuples stands shown s = search (rules, granted, from_left-leaves)
 
   -- without certificates an entry grants exactly if its own tuple does
   pub granted_alone : (n : ℕ) → AreShown c.policy verified c.items [] → (g : Granted n c verified)
@@ -35,10 +35,10 @@ module _ (c : Case) (verified : Verified) where
       let s = granted_from_left n [] shown g in
       rw (five_same s.root (entry_tuple g.entry) s.derived) at s.grants
 
-  pub alone_granted : (place : ℕ) (entry : Entry) → slice_get c.entries place ≡ Some entry → AreShown c.policy verified c.items []
-      → Grants c.policy (entry_tuple entry) c.key c.request c.moment → Granted (suc place) c verified
-  alone_granted place entry stands shown grants =
-      from_left_granted place entry [] stands shown (record { root = entry_tuple entry; derived = refl; grants = grants })
+  pub alone_granted : (index : ℕ) (entry : Entry) → slice_get c.entries index ≡ Some entry → AreShown c.policy verified c.items []
+      → Grants c.policy (entry_tuple entry) c.key c.request c.moment → Granted (suc index) c verified
+  alone_granted index entry stands shown grants =
+      from_left_granted index entry [] stands shown (record { root = entry_tuple entry; derived = refl; grants = grants })
 
 -- ---- an entry whose principal doesn't name the first key grants nothing
 
@@ -59,26 +59,26 @@ supported_named c (t ∷ others) e s =
     joined c.policy c.key e t others begun.0 begun.1
 
 -- an entry whose chain is too large at a step is not left out: its principal names the key of the first step, which joins it
-module _ (most : ℕ) (policy : Policy) (asker : List ℕ) (e : Entry) where
+module _ (max_product : ℕ) (policy : Policy) (asker : List ℕ) (e : Entry) where
   issuing : (root right : FiveTuple) (others : List Tuple) → Issues policy root right → root ≡ entry_tuple e
       → IsOf policy e (first_key asker (five right ∷ others))
   issuing root right others issues is =
       let own = subst (λ (t : FiveTuple). Issues policy t right) is issues in
       subst (λ (issuer : Issuer). IsOf policy e (key_of issuer)) (sym own.issued) own.is_for.named
 
-  large_first : (t : Tuple) (others : List Tuple) (root : FiveTuple) → root ≡ entry_tuple e → TooLargeFor most policy root t
+  large_first : (t : Tuple) (others : List Tuple) (root : FiveTuple) → root ≡ entry_tuple e → TooLargeFor max_product policy root t
       → IsOf policy e (first_key asker (t ∷ others))
   large_first (five right) others root is large = issuing root right others large.0.issues is
   large_first (four right) others root is large = absurd large
 
-  large_from : (t tuple : Tuple) (others : List Tuple) (place : ℕ) (root : FiveTuple) → slice_get (t ∷ others) place ≡ Some tuple
-      → Derives policy (from_left (five (entry_tuple e)) (take place (t ∷ others))) (five root) → TooLargeFor most policy root tuple
+  large_from : (t tuple : Tuple) (others : List Tuple) (index : ℕ) (root : FiveTuple) → slice_get (t ∷ others) index ≡ Some tuple
+      → Derives policy (from_left (five (entry_tuple e)) (take index (t ∷ others))) (five root) → TooLargeFor max_product policy root tuple
       → IsOf policy e (first_key asker (t ∷ others))
   large_from t tuple others zero root stands derived large =
       large_first t others root (five_same root (entry_tuple e) derived)
-      (subst (λ (u : Tuple). TooLargeFor most policy root u) (sym (same_Some t tuple stands)) large)
-  large_from t tuple others (suc place) root stands derived large =
-      let begun = first_step policy (entry_tuple e) t (take place others) (five root) derived in
+      (subst (λ (u : Tuple). TooLargeFor max_product policy root u) (sym (same_Some t tuple stands)) large)
+  large_from t tuple others (suc index) root stands derived large =
+      let begun = first_step policy (entry_tuple e) t (take index others) (five root) derived in
       joined policy asker e t others begun.0 begun.1
 
   reached_first : (t : Tuple) (others : List Tuple) (root : FiveTuple) → root ≡ entry_tuple e → Reaches policy root t
@@ -87,28 +87,28 @@ module _ (most : ℕ) (policy : Policy) (asker : List ℕ) (e : Entry) where
   reached_first (four right) others root is at =
       let own = subst (λ (u : FiveTuple). ResolvesTimely policy u right) is at in own.begins.named
 
-  reached_from : (t tuple : Tuple) (others : List Tuple) (place : ℕ) (root : FiveTuple) → slice_get (t ∷ others) place ≡ Some tuple
-      → Derives policy (from_left (five (entry_tuple e)) (take place (t ∷ others))) (five root) → Reaches policy root tuple
+  reached_from : (t tuple : Tuple) (others : List Tuple) (index : ℕ) (root : FiveTuple) → slice_get (t ∷ others) index ≡ Some tuple
+      → Derives policy (from_left (five (entry_tuple e)) (take index (t ∷ others))) (five root) → Reaches policy root tuple
       → IsOf policy e (first_key asker (t ∷ others))
   reached_from t tuple others zero root stands derived at =
       reached_first t others root (five_same root (entry_tuple e) derived)
       (subst (λ (u : Tuple). Reaches policy root u) (sym (same_Some t tuple stands)) at)
-  reached_from t tuple others (suc place) root stands derived at =
-      let begun = first_step policy (entry_tuple e) t (take place others) (five root) derived in
+  reached_from t tuple others (suc index) root stands derived at =
+      let begun = first_step policy (entry_tuple e) t (take index others) (five root) derived in
       joined policy asker e t others begun.0 begun.1
 
-  pub large_named : (tuples : List Tuple) → TooLargeAt most policy (five (entry_tuple e)) tuples → IsOf policy e (first_key asker tuples)
+  pub large_named : (tuples : List Tuple) → TooLargeAt max_product policy (five (entry_tuple e)) tuples → IsOf policy e (first_key asker tuples)
   large_named [] large = absurd (none-some large.tuple large.stands)
-  large_named (t ∷ others) large = large_from t large.tuple others large.place large.root large.stands large.before.derived large.too_large
+  large_named (t ∷ others) large = large_from t large.tuple others large.index large.root large.stands large.before.derived large.too_large
 
 -- an entry whose chain reaches a step is not left out
-pub reached_named : (policy : Policy) (asker : List ℕ) (e : Entry) (tuples : List Tuple) (place : ℕ)
-    → ReachedAt policy (five (entry_tuple e)) tuples place → IsOf policy e (first_key asker tuples)
-reached_named policy asker e [] place at = absurd (none-some at.tuple at.stands)
-reached_named policy asker e (t ∷ others) place at =
-    reached_from 0 policy asker e t at.tuple others place at.root at.stands at.before.derived at.joins
+pub reached_named : (policy : Policy) (asker : List ℕ) (e : Entry) (tuples : List Tuple) (index : ℕ)
+    → ReachedAt policy (five (entry_tuple e)) tuples index → IsOf policy e (first_key asker tuples)
+reached_named policy asker e [] index at = absurd (none-some at.tuple at.stands)
+reached_named policy asker e (t ∷ others) index at =
+    reached_from 0 policy asker e t at.tuple others index at.root at.stands at.before.derived at.joins
 
--- ---- places in a part of a list
+-- ---- indices in a part of a list
 
 second_at : (ks : List (ℕ × Entry)) (p n : ℕ) (e : Entry) → slice_get ks p ≡ Some (n, e) → slice_get (map second ks) p ≡ Some e
 second_at ks p n e stands = rw (slice_get-map, stands)
@@ -118,20 +118,20 @@ from_second [] p e stands = absurd (none-some e stands)
 from_second (k ∷ ks) zero e stands = (k.0, ap (λ (f : Entry). Some (k.0, f)) (same_Some k.1 e stands))
 from_second (k ∷ ks) (suc p) e stands = from_second ks p e stands
 
--- an entry with its number; `next` says that n + (place + 1) and (n + 1) + place are the same number
+-- an entry with its number; `next` says that n + (index + 1) and (n + 1) + index are the same number
 abbrev numbered : ℕ → Entry → ℕ × Entry
 numbered n e = (n, e)
 
-next : (n place : ℕ) (e : Entry) → Some (numbered (n + suc place) e) ≡ Some (numbered (suc n + place) e)
-next n place e = let moved : n + suc place ≡ suc n + place = omega arith in ap (λ (m : ℕ). Some (numbered m e)) moved
+next : (n index : ℕ) (e : Entry) → Some (numbered (n + suc index) e) ≡ Some (numbered (suc n + index) e)
+next n index e = let moved : n + suc index ≡ suc n + index = omega arith in ap (λ (m : ℕ). Some (numbered m e)) moved
 
 first_number : (n : ℕ) (f e : Entry) (k : ℕ × Entry) → k ≡ (n, f) → (more : ℕ) → Some k ≡ Some (n + more, e) → n ≡ n + more
 first_number n f e k is more stands = ap (λ (j : ℕ × Entry). j.0) (sym is ∙ same_Some k (n + more, e) stands)
 
 module _ (Out : Entry → Type 0) where
-  -- the number of an entry that is kept is that of its place in the list
+  -- the number of an entry that is kept is that of its index in the list
   pub listed : (n : ℕ) (es : List Entry) (ks : List (ℕ × Entry)) (p m : ℕ) (e : Entry) → AreKept Out n es ks → slice_get ks p ≡ Some (m, e)
-      → (place : ℕ) × (m ≡ n + place) × (slice_get es place ≡ Some e)
+      → (index : ℕ) × (m ≡ n + index) × (slice_get es index ≡ Some e)
   listed n es [] p m e kept stands = absurd (none-some (m, e) stands)
   listed n [] (k ∷ ks) p m e kept stands = absurd kept
   listed n (f ∷ es) (k ∷ ks) p m e (inl out) stands =
@@ -143,17 +143,17 @@ module _ (Out : Entry → Type 0) where
       (suc later.0, omega (arith, later.1), later.2)
 
   -- an entry that isn't left out is kept
-  pub found : (n : ℕ) (es : List Entry) (ks : List (ℕ × Entry)) (place : ℕ) (e : Entry) → AreKept Out n es ks → slice_get es place ≡ Some e
-      → ¬ Out e → (p : ℕ) × (slice_get ks p ≡ Some (n + place, e))
-  found n [] ks place e kept stands in_it = absurd (none-some e stands)
+  pub found : (n : ℕ) (es : List Entry) (ks : List (ℕ × Entry)) (index : ℕ) (e : Entry) → AreKept Out n es ks → slice_get es index ≡ Some e
+      → ¬ Out e → (p : ℕ) × (slice_get ks p ≡ Some (n + index, e))
+  found n [] ks index e kept stands in_it = absurd (none-some e stands)
   found n (f ∷ es) [] zero e kept stands in_it = absurd (in_it (subst Out (same_Some f e stands) kept.0))
-  found n (f ∷ es) [] (suc place) e kept stands in_it = search (rules, none-some, found (suc n) es [] place e kept.1 stands in_it)
+  found n (f ∷ es) [] (suc index) e kept stands in_it = search (rules, none-some, found (suc n) es [] index e kept.1 stands in_it)
   found n (f ∷ es) (k ∷ ks) zero e (inl out) stands in_it = absurd (in_it (subst Out (same_Some f e stands) out.0))
-  found n (f ∷ es) (k ∷ ks) (suc place) e (inl out) stands in_it = search (rules, found (suc n) es (k ∷ ks) place e out.1 stands in_it)
+  found n (f ∷ es) (k ∷ ks) (suc index) e (inl out) stands in_it = search (rules, found (suc n) es (k ∷ ks) index e out.1 stands in_it)
   found n (f ∷ es) (k ∷ ks) zero e (inr here) stands in_it = search (rules, same_Some)
-  found n (f ∷ es) (k ∷ ks) (suc place) e (inr here) stands in_it =
-      let later = found (suc n) es ks place e here.1 stands in_it in
-      let moved : suc n + place ≡ n + suc place = omega arith in
+  found n (f ∷ es) (k ∷ ks) (suc index) e (inr here) stands in_it =
+      let later = found (suc n) es ks index e here.1 stands in_it in
+      let moved : suc n + index ≡ n + suc index = omega arith in
       (suc later.0, later.1 ∙ ap (λ (m : ℕ). Some (m, e)) moved)
 
   -- numbers are no less than that of the first, and they grow
@@ -175,38 +175,38 @@ module _ (Out : Entry → Type 0) where
       growing (suc n) es ks p q i j e f here.1 (omega (arith, less)) at_p at_q
 
   -- the kept ones before the one at p are the kept ones of the entries before its own
-  pub kept_front : (n : ℕ) (es : List Entry) (ks : List (ℕ × Entry)) (p place : ℕ) (e : Entry) → AreKept Out n es ks
-      → slice_get ks p ≡ Some (n + place, e) → AreKept Out n (take place es) (take p ks)
-  kept_front n es [] p place e kept stands = absurd (none-some (n + place, e) stands)
-  kept_front n [] (k ∷ ks) p place e kept stands = absurd kept
+  pub kept_front : (n : ℕ) (es : List Entry) (ks : List (ℕ × Entry)) (p index : ℕ) (e : Entry) → AreKept Out n es ks
+      → slice_get ks p ≡ Some (n + index, e) → AreKept Out n (take index es) (take p ks)
+  kept_front n es [] p index e kept stands = absurd (none-some (n + index, e) stands)
+  kept_front n [] (k ∷ ks) p index e kept stands = absurd kept
   kept_front n (f ∷ es) (k ∷ ks) p zero e (inl out) stands =
       let low = from_first (suc n) es (k ∷ ks) p (n + 0) e out.1 stands in absurd (omega (arith, low))
-  kept_front n (f ∷ es) (k ∷ ks) zero (suc place) e (inl out) stands =
-      (out.0, kept_front (suc n) es (k ∷ ks) 0 place e out.1 (stands ∙ next n place e))
-  kept_front n (f ∷ es) (k ∷ ks) (suc p) (suc place) e (inl out) stands =
-      inl (out.0, kept_front (suc n) es (k ∷ ks) (suc p) place e out.1 (stands ∙ next n place e))
+  kept_front n (f ∷ es) (k ∷ ks) zero (suc index) e (inl out) stands =
+      (out.0, kept_front (suc n) es (k ∷ ks) 0 index e out.1 (stands ∙ next n index e))
+  kept_front n (f ∷ es) (k ∷ ks) (suc p) (suc index) e (inl out) stands =
+      inl (out.0, kept_front (suc n) es (k ∷ ks) (suc p) index e out.1 (stands ∙ next n index e))
   kept_front n (f ∷ es) (k ∷ ks) zero zero e (inr here) stands = tt
-  kept_front n (f ∷ es) (k ∷ ks) zero (suc place) e (inr here) stands = absurd (omega (arith, first_number n f e k here.0 (suc place) stands))
+  kept_front n (f ∷ es) (k ∷ ks) zero (suc index) e (inr here) stands = absurd (omega (arith, first_number n f e k here.0 (suc index) stands))
   kept_front n (f ∷ es) (k ∷ ks) (suc p) zero e (inr here) stands =
       let low = from_first (suc n) es ks p (n + 0) e here.1 stands in absurd (omega (arith, low))
-  kept_front n (f ∷ es) (k ∷ ks) (suc p) (suc place) e (inr here) stands =
-      inr (here.0, kept_front (suc n) es ks p place e here.1 (stands ∙ next n place e))
+  kept_front n (f ∷ es) (k ∷ ks) (suc p) (suc index) e (inr here) stands =
+      inr (here.0, kept_front (suc n) es ks p index e here.1 (stands ∙ next n index e))
 
   -- the kept ones up to and with that at p are the kept ones of the entries up to and with its own
-  pub kept_through : (n : ℕ) (es : List Entry) (ks : List (ℕ × Entry)) (p place : ℕ) (e : Entry) → AreKept Out n es ks
-      → slice_get ks p ≡ Some (n + place, e) → AreKept Out n (take (suc place) es) (take (suc p) ks)
-  kept_through n es [] p place e kept stands = absurd (none-some (n + place, e) stands)
-  kept_through n [] (k ∷ ks) p place e kept stands = absurd kept
+  pub kept_through : (n : ℕ) (es : List Entry) (ks : List (ℕ × Entry)) (p index : ℕ) (e : Entry) → AreKept Out n es ks
+      → slice_get ks p ≡ Some (n + index, e) → AreKept Out n (take (suc index) es) (take (suc p) ks)
+  kept_through n es [] p index e kept stands = absurd (none-some (n + index, e) stands)
+  kept_through n [] (k ∷ ks) p index e kept stands = absurd kept
   kept_through n (f ∷ es) (k ∷ ks) p zero e (inl out) stands =
       let low = from_first (suc n) es (k ∷ ks) p (n + 0) e out.1 stands in absurd (omega (arith, low))
-  kept_through n (f ∷ es) (k ∷ ks) p (suc place) e (inl out) stands =
-      inl (out.0, kept_through (suc n) es (k ∷ ks) p place e out.1 (stands ∙ next n place e))
+  kept_through n (f ∷ es) (k ∷ ks) p (suc index) e (inl out) stands =
+      inl (out.0, kept_through (suc n) es (k ∷ ks) p index e out.1 (stands ∙ next n index e))
   kept_through n (f ∷ es) (k ∷ ks) zero zero e (inr here) stands = inr (here.0, tt)
-  kept_through n (f ∷ es) (k ∷ ks) zero (suc place) e (inr here) stands = absurd (omega (arith, first_number n f e k here.0 (suc place) stands))
+  kept_through n (f ∷ es) (k ∷ ks) zero (suc index) e (inr here) stands = absurd (omega (arith, first_number n f e k here.0 (suc index) stands))
   kept_through n (f ∷ es) (k ∷ ks) (suc p) zero e (inr here) stands =
       let low = from_first (suc n) es ks p (n + 0) e here.1 stands in absurd (omega (arith, low))
-  kept_through n (f ∷ es) (k ∷ ks) (suc p) (suc place) e (inr here) stands =
-      inr (here.0, kept_through (suc n) es ks p place e here.1 (stands ∙ next n place e))
+  kept_through n (f ∷ es) (k ∷ ks) (suc p) (suc index) e (inr here) stands =
+      inr (here.0, kept_through (suc n) es ks p index e here.1 (stands ∙ next n index e))
 
 -- ---- the decision of the part is that of the list
 
@@ -215,9 +215,9 @@ module _ (c : Case) (verified : Verified) (kept : List (ℕ × Entry)) (are_kept
   granted_kept : (n : ℕ) → (g : Granted n c verified)
       → (p : ℕ) × (slice_get kept p ≡ Some (n, g.entry)) × Granted (suc p) (kept_case c kept) verified
   granted_kept n g =
-      let p = found (IsLeftOut c g.tuples) 1 c.entries kept g.place g.entry (are_kept g.tuples g.shown) g.stands
+      let p = found (IsLeftOut c g.tuples) 1 c.entries kept g.index g.entry (are_kept g.tuples g.shown) g.stands
       (λ out. out (supported_named c g.tuples g.entry g.supported)) in
-      let number : 1 + g.place ≡ n = omega (arith, g.numbered) in
+      let number : 1 + g.index ≡ n = omega (arith, g.numbered) in
       let stands = p.1 ∙ ap (λ (m : ℕ). Some (m, g.entry)) number in
       search (rules, second_at)
 
@@ -225,21 +225,21 @@ module _ (c : Case) (verified : Verified) (kept : List (ℕ × Entry)) (are_kept
   kept_granted : (p n : ℕ) (e : Entry) → slice_get kept p ≡ Some (n, e) → Granted (suc p) (kept_case c kept) verified → Granted n c verified
   kept_granted p n e stands g = search (rules, slice_get, same_Some, second_at, listed)
 
-  -- an entry with a number that is not greater is not at a later place of the part
+  -- an entry with a number that is not greater is not at a later index of the part
   earlier : (tuples : List Tuple) → AreShown c.policy verified c.items tuples → (p q n m : ℕ) (e f : Entry)
       → slice_get kept p ≡ Some (n, e) → slice_get kept q ≡ Some (m, f) → m ≤ n → q ≤ p
   earlier tuples shown p q n m e f at_p at_q less = search (rules, growing)
 
   pub renumbered : (x y : Decision) → IsDecision (kept_case c kept) verified x → IsRenumbered kept x y → IsDecision c verified y
   renumbered (Yes m) (Yes n) d r =
-      let place = r.0 in
-      let g : Granted (suc place) (kept_case c kept) verified = subst (λ (j : ℕ). Granted j (kept_case c kept) verified) r.2 d.granted in
+      let index = r.0 in
+      let g : Granted (suc index) (kept_case c kept) verified = subst (λ (j : ℕ). Granted j (kept_case c kept) verified) r.2 d.granted in
       record {
-        granted = kept_granted place n r.1 r.3 g;
+        granted = kept_granted index n r.1 r.3 g;
         none_before = λ k less h.
             let p = granted_kept k h in
-            let before = earlier h.tuples h.shown place p.0 n k r.1 h.entry r.3 p.1 (omega (arith, less)) in
-            let other : ¬ (p.0 ≡ place) = λ same.
+            let before = earlier h.tuples h.shown index p.0 n k r.1 h.entry r.3 p.1 (omega (arith, less)) in
+            let other : ¬ (p.0 ≡ index) = λ same.
             let here = same_Some (k, h.entry) (n, r.1) (sym p.1 ∙ ap (λ (q : ℕ). slice_get kept q) same ∙ r.3) in
             absurd (omega (arith, less, ap (λ (j : ℕ × Entry). j.0) here)) in
             d.none_before (suc p.0) (omega (arith, before, other, r.2)) p.2;
@@ -251,19 +251,19 @@ module _ (c : Case) (verified : Verified) (kept : List (ℕ × Entry)) (are_kept
   -- ---- refusals
 
   abbrev HasLargeChain : List Tuple → Entry → Type 0
-  HasLargeChain tuples e = TooLargeAt c.most_nodes c.policy (five (entry_tuple e)) tuples
+  HasLargeChain tuples e = TooLargeAt c.max_nodes c.policy (five (entry_tuple e)) tuples
 
   -- an entry whose chain is too large is kept
-  large_kept : (tuples : List Tuple) → AreShown c.policy verified c.items tuples → (place : ℕ) (e : Entry) → slice_get c.entries place ≡ Some e
-      → HasLargeChain tuples e → (p : ℕ) × (slice_get kept p ≡ Some (1 + place, e))
-  large_kept tuples shown place e stands large =
-      found (IsLeftOut c tuples) 1 c.entries kept place e (are_kept tuples shown) stands
-      (λ out. out (large_named c.most_nodes c.policy c.key e tuples large))
+  large_kept : (tuples : List Tuple) → AreShown c.policy verified c.items tuples → (index : ℕ) (e : Entry) → slice_get c.entries index ≡ Some e
+      → HasLargeChain tuples e → (p : ℕ) × (slice_get kept p ≡ Some (1 + index, e))
+  large_kept tuples shown index e stands large =
+      found (IsLeftOut c tuples) 1 c.entries kept index e (are_kept tuples shown) stands
+      (λ out. out (large_named c.max_nodes c.policy c.key e tuples large))
 
   -- an entry that is left out takes nothing
   nothing_out : (tuples : List Tuple) (e : Entry) → IsLeftOut c tuples e → IsCharge c.policy c.uncounted tuples e 0
   nothing_out tuples e out =
-      no_charge c.policy c.uncounted tuples e (λ place at. out (reached_named c.policy c.key e tuples place at))
+      no_charge c.policy c.uncounted tuples e (λ index at. out (reached_named c.policy c.key e tuples index at))
 
   -- the work of the front of the part is that of the front of the list
   work_front : (tuples : List Tuple) (fs : List Entry) (ks : List (ℕ × Entry)) (count work : ℕ)
@@ -319,15 +319,15 @@ module _ (c : Case) (verified : Verified) (kept : List (ℕ × Entry)) (are_kept
   )
 
   -- the chain that is too large, or whose work is, is that of the entry in the list
-  large_there : (tuples : List Tuple) → AreShown c.policy verified c.items tuples → (p place : ℕ) (e : Entry)
-      → slice_get kept p ≡ Some (1 + place, e) → IsLarge (kept_case c kept) tuples e ⊎ IsOverspent (kept_case c kept) tuples p e
-      → IsLarge c tuples e ⊎ IsOverspent c tuples place e
-  large_there tuples shown p place e there (inl h) = inl (record { at = h.at; large = h.large })
-  large_there tuples shown p place e there (inr h) = inr (record {
+  large_there : (tuples : List Tuple) → AreShown c.policy verified c.items tuples → (p index : ℕ) (e : Entry)
+      → slice_get kept p ≡ Some (1 + index, e) → IsLarge (kept_case c kept) tuples e ⊎ IsOverspent (kept_case c kept) tuples p e
+      → IsLarge c tuples e ⊎ IsOverspent c tuples index e
+  large_there tuples shown p index e there (inl h) = inl (record { at = h.at; large = h.large })
+  large_there tuples shown p index e there (inr h) = inr (record {
     counted = h.counted;
     before = h.before;
-    before_is = work_front tuples (take place c.entries) kept p h.before
-        (kept_front (IsLeftOut c tuples) 1 c.entries kept p place e (are_kept tuples shown) there) h.before_is;
+    before_is = work_front tuples (take index c.entries) kept p h.before
+        (kept_front (IsLeftOut c tuples) 1 c.entries kept p index e (are_kept tuples shown) there) h.before_is;
     steps = h.steps;
     within = h.within;
     here = h.here;
@@ -337,22 +337,22 @@ module _ (c : Case) (verified : Verified) (kept : List (ℕ × Entry)) (are_kept
 
   too_large : IsTooLarge (kept_case c kept) verified → IsTooLarge c verified
   too_large h =
-      let here = from_second kept h.place h.entry h.stands in
-      let at = listed (IsLeftOut c h.tuples) 1 c.entries kept h.place here.0 h.entry (are_kept h.tuples h.shown) here.1 in
+      let here = from_second kept h.index h.entry h.stands in
+      let at = listed (IsLeftOut c h.tuples) 1 c.entries kept h.index here.0 h.entry (are_kept h.tuples h.shown) here.1 in
       record {
-        place = at.0;
+        index = at.0;
         entry = h.entry;
         stands = at.2;
         none_granted = λ n below g.
             let p = granted_kept n g in
-            let before = earlier h.tuples h.shown h.place p.0 here.0 n h.entry g.entry here.1 p.1 (omega (arith, below, at.1)) in
-            let other : ¬ (p.0 ≡ h.place) = λ same.
+            let before = earlier h.tuples h.shown h.index p.0 here.0 n h.entry g.entry here.1 p.1 (omega (arith, below, at.1)) in
+            let other : ¬ (p.0 ≡ h.index) = λ same.
             let both = same_Some (n, g.entry) (here.0, h.entry) (sym p.1 ∙ ap (λ (q : ℕ). slice_get kept q) same ∙ here.1) in
             absurd (omega (arith, below, at.1, ap (λ (j : ℕ × Entry). j.0) both)) in
             h.none_granted (suc p.0) (omega (arith, before, other)) p.2;
         tuples = h.tuples;
         shown = h.shown;
-        at = large_there h.tuples h.shown h.place at.0 h.entry (here.1 ∙ ap (λ (m : ℕ). Some (m, h.entry)) at.1) h.at;
+        at = large_there h.tuples h.shown h.index at.0 h.entry (here.1 ∙ ap (λ (m : ℕ). Some (m, h.entry)) at.1) h.at;
       }
 
   pub answered : (x y : Result Decision GuardFault) → IsDecided (kept_case c kept) verified x → IsSameAnswer kept x y → IsDecided c verified y

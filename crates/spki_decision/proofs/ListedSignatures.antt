@@ -15,7 +15,7 @@ use Rattle.spki_decision.specs.declared.reduction.{EntryFold.{EntryFold}, Reduct
 use Rattle.spki_decision.specs.CertificateTests.{issuer_key, PassesTests, FailsBy, Signed, asked_of, asked_with, asked_in, every, PassesTestsAs, FailsAt, AreShown, asked, before_all, IsAccepted, AgreeOn, FailsIn, signed_of, RefusedAt}
 use Rattle.spki_decision.specs.{Judged.{PassesAs, IsEvidence}, Granted.{Granted, IsDecision, AreFolds, IsFailure, SomeTooLarge}}
 use Rattle.spki_decision.specs.Answered.{IsDecided, IsExplained, IsReduced}
-use Rattle.spki_decision.proofs.{CertificateTests.{at_place, below}, EntryChains.{all_pushed}}
+use Rattle.spki_decision.proofs.{CertificateTests.{at_index, below}, EntryChains.{all_pushed}}
 use Rattle.spki_reduce.specs.Reduction.{Tuple}
 use Rattle.spki_decision.specs.declared.explanation.Explanation.TheVariants as explanation
 use Rattle.spki_decision.specs.declared.reduction.Reduction.TheVariants as reduction
@@ -111,39 +111,39 @@ pub still_failing : (policy : Policy) (items : List SeqItem) (one other : Verifi
 still_failing policy items one other agree item stop f = search (rules, all_before)
 
 module _ (policy : Policy) (keys : List (List ℕ)) (verified : Verified) where
-  accepted_here : (t : Signed) (others : List Signed) (place : ℕ) (s : Signed) → IsAccepted verified t
+  accepted_here : (t : Signed) (others : List Signed) (index : ℕ) (s : Signed) → IsAccepted verified t
       → ((p : ℕ) → slice_get others p ≡ Some s → IsAccepted verified s)
-      → slice_get (t ∷ others) place ≡ Some s → IsAccepted verified s
+      → slice_get (t ∷ others) index ≡ Some s → IsAccepted verified s
   accepted_here t others zero s first later stands = subst (λ (u : Signed). IsAccepted verified u) (same_Some t s stands) first
-  accepted_here t others (suc place) s first later stands = later place stands
+  accepted_here t others (suc index) s first later stands = later index stands
 
   -- if every certificate passes its tests, the verifier accepts each signature that it is asked about
-  accepted_at : (shown : List Shown) (ts : List Tuple) (place : ℕ) (s : Signed) → AllZip (PassesTestsAs policy keys verified) shown ts
-      → slice_get (asked_in policy keys shown) place ≡ Some s → IsAccepted verified s
-  accepted_at [] ts place s a stands = absurd (none-some s stands)
-  accepted_at (x ∷ shown) [] place s a stands = absurd a
-  accepted_at (x ∷ shown) (t ∷ ts) place s a stands =
+  accepted_at : (shown : List Shown) (ts : List Tuple) (index : ℕ) (s : Signed) → AllZip (PassesTestsAs policy keys verified) shown ts
+      → slice_get (asked_in policy keys shown) index ≡ Some s → IsAccepted verified s
+  accepted_at [] ts index s a stands = absurd (none-some s stands)
+  accepted_at (x ∷ shown) [] index s a stands = absurd a
+  accepted_at (x ∷ shown) (t ∷ ts) index s a stands =
       let parted = rw (stands_asked policy keys verified x a.0.holder a.0.stands) at stands in
-      accepted_here _ (asked_in policy keys shown) place s a.0.stands.accepted (λ p e. accepted_at shown ts p s a.1 e) parted
+      accepted_here _ (asked_in policy keys shown) index s a.0.stands.accepted (λ p e. accepted_at shown ts p s a.1 e) parted
 
 -- ---- cases
 
 -- if the verifier does not accept a signature that it is asked about, `decide` answers no
-pub no_by : (c : Case) (verified : Verified) (place : ℕ) (s : Signed) (x : Result Decision GuardFault) → slice_get (asked c) place ≡ Some s
+pub no_by : (c : Case) (verified : Verified) (index : ℕ) (s : Signed) (x : Result Decision GuardFault) → slice_get (asked c) index ≡ Some s
     → ¬ IsAccepted verified s → IsDecided c verified x → x ≡ Ok No
-no_by c verified place s (Ok (Yes n)) stands refused d =
-    absurd (refused (accepted_at c.policy (keys_of c.items) verified (certificates c.items) d.0.granted.tuples place s d.0.granted.shown stands))
-no_by c verified place s (Ok No) stands refused d = refl
-no_by c verified place s (Err TooLarge) stands refused d =
-    absurd (refused (accepted_at c.policy (keys_of c.items) verified (certificates c.items) d.tuples place s d.shown stands))
-no_by c verified place s (Err Memory) stands refused d = absurd d
+no_by c verified index s (Ok (Yes n)) stands refused d =
+    absurd (refused (accepted_at c.policy (keys_of c.items) verified (certificates c.items) d.0.granted.tuples index s d.0.granted.shown stands))
+no_by c verified index s (Ok No) stands refused d = refl
+no_by c verified index s (Err TooLarge) stands refused d =
+    absurd (refused (accepted_at c.policy (keys_of c.items) verified (certificates c.items) d.tuples index s d.shown stands))
+no_by c verified index s (Err Memory) stands refused d = absurd d
 
 -- if it does not accept one, the decision is no
-pub none_by : (c : Case) (verified : Verified) (place : ℕ) (s : Signed) (d : Decision) → slice_get (asked c) place ≡ Some s
+pub none_by : (c : Case) (verified : Verified) (index : ℕ) (s : Signed) (d : Decision) → slice_get (asked c) index ≡ Some s
     → ¬ IsAccepted verified s → IsDecision c verified d → d ≡ No
-none_by c verified place s (Yes n) stands refused d =
-    absurd (refused (accepted_at c.policy (keys_of c.items) verified (certificates c.items) d.granted.tuples place s d.granted.shown stands))
-none_by c verified place s No stands refused d = refl
+none_by c verified index s (Yes n) stands refused d =
+    absurd (refused (accepted_at c.policy (keys_of c.items) verified (certificates c.items) d.granted.tuples index s d.granted.shown stands))
+none_by c verified index s No stands refused d = refl
 
 shown_with : (c : Case) (one other : Verified) → AgreeOn one other (asked c) → (ts : List Tuple) → AreShown c.policy one c.items ts
     → AreShown c.policy other c.items ts
@@ -219,7 +219,7 @@ module _ (policy : Policy) (keys : List (List ℕ)) (verified : Verified) where
         after = shown;
         parts = refl;
         standing = tt;
-        place = ap (λ (u : Signed). u.item) b.signed_is;
+        index = ap (λ (u : Signed). u.item) b.signed_is;
         fails = refused s r b not;
       }
 
@@ -231,7 +231,7 @@ module _ (policy : Policy) (keys : List (List ℕ)) (verified : Verified) where
     after = r.after;
     parts = ap (λ xs. s ∷ xs) r.parts;
     standing = ((t.key, accepted_too policy keys every verified s t.key a.stands (subst (IsAccepted verified) a.signed_is accepted)), r.standing);
-    place = r.place;
+    index = r.index;
     fails = r.fails;
   }
 
@@ -258,31 +258,31 @@ module _ (policy : Policy) (keys : List (List ℕ)) (verified : Verified) where
       by_first s shown (asked_of policy keys s) before r after refl e accepted not
       (λ others f more. refused_in shown others r after f more not)
 
-pub not_accepted : (policy : Policy) (verified : Verified) (items : List SeqItem) (signed : List Signed) (place : ℕ)
-    → signed ≡ asked_in policy (keys_of items) (certificates items) → (r : RefusedAt verified signed place)
+pub not_accepted : (policy : Policy) (verified : Verified) (items : List SeqItem) (signed : List Signed) (index : ℕ)
+    → signed ≡ asked_in policy (keys_of items) (certificates items) → (r : RefusedAt verified signed index)
     → FailsAt policy verified items r.refused.item NotAccepted
-not_accepted policy verified items signed place same r =
+not_accepted policy verified items signed index same r =
     refused_in policy (keys_of items) verified (certificates items) r.before r.refused r.after (sym same ∙ r.parts) r.accepted r.not_accepted
 
 -- ---- one listed signature more that the verifier is asked about
 
-module _ (verified : Verified) (signed : List Signed) (place : ℕ) (within : place < length signed) (one : Signed)
-    (here : one ≡ get_or signed place one) (before : AllByRecursion (IsAccepted verified) (take place signed)) where
-  rest : drop place signed ≡ one ∷ drop (place + 1) signed
+module _ (verified : Verified) (signed : List Signed) (index : ℕ) (within : index < length signed) (one : Signed)
+    (here : one ≡ get_or signed index one) (before : AllByRecursion (IsAccepted verified) (take index signed)) where
+  rest : drop index signed ≡ one ∷ drop (index + 1) signed
   rest = search (rules, drop-cons, add-one)
 
-  pub one_accepted : IsAccepted verified one → AllByRecursion (IsAccepted verified) (take (place + 1) signed)
+  pub one_accepted : IsAccepted verified one → AllByRecursion (IsAccepted verified) (take (index + 1) signed)
   one_accepted accepted =
-      all_pushed (IsAccepted verified) (take place signed) (take (place + 1) signed) one before accepted
-      (rw (← here) at (take_more signed place one within))
+      all_pushed (IsAccepted verified) (take index signed) (take (index + 1) signed) one before accepted
+      (rw (← here) at (take_more signed index one within))
 
-  pub refused_at : ¬ IsAccepted verified one → RefusedAt verified signed place
+  pub refused_at : ¬ IsAccepted verified one → RefusedAt verified signed index
   refused_at not = record {
-    before = take place signed;
+    before = take index signed;
     refused = one;
-    after = drop (place + 1) signed;
-    parts = sym (take-append-drop place signed) ∙ ap (λ xs. take place signed ++ xs) rest;
-    place_is = sym (length-take-le place signed (let b = within in omega arith));
+    after = drop (index + 1) signed;
+    parts = sym (take-append-drop index signed) ∙ ap (λ xs. take index signed ++ xs) rest;
+    index_is = sym (length-take-le index signed (let b = within in omega arith));
     accepted = before;
     not_accepted = not;
   }
@@ -291,21 +291,21 @@ module _ (verified : Verified) (kept : List examined.Signed) (i : ℕ) (within :
     (here : one ≡ get_or kept i one) (before : AllByRecursion (IsAccepted verified) (take i (map signed_of kept))) where
   pub one_more : IsAccepted verified (signed_of one) → AllByRecursion (IsAccepted verified) (take (i + 1) (map signed_of kept))
   one_more = one_accepted verified (map signed_of kept) i (below signed_of kept i within one here) (signed_of one)
-      (sym (at_place signed_of kept i within one here)) before
+      (sym (at_index signed_of kept i within one here)) before
 
   pub refused_here : ¬ IsAccepted verified (signed_of one) → RefusedAt verified (map signed_of kept) i
   refused_here = refused_at verified (map signed_of kept) i (below signed_of kept i within one here) (signed_of one)
-      (sym (at_place signed_of kept i within one here)) before
+      (sym (at_index signed_of kept i within one here)) before
 
--- ---- the signature at the place of the first refused one
+-- ---- the signature at the index of the first refused one
 
-module _ (verified : Verified) (kept : List examined.Signed) (place : ℕ) (r : RefusedAt verified (map signed_of kept) place) where
-  pub refused_within : place < length kept
+module _ (verified : Verified) (kept : List examined.Signed) (index : ℕ) (r : RefusedAt verified (map signed_of kept) index) where
+  pub refused_within : index < length kept
   refused_within = search (rules, length-append, refused, length-map)
 
-  pub refused_item : (d : examined.Signed) → (get_or kept place d).item ≡ r.refused.item
+  pub refused_item : (d : examined.Signed) → (get_or kept index d).item ≡ r.refused.item
   refused_item d =
-      let there : get_or (map signed_of kept) place (signed_of d) ≡ r.refused =
-      ap (λ xs. get_or xs place (signed_of d)) r.parts ∙ ap (λ k. get_or (r.before ++ r.refused ∷ r.after) k (signed_of d)) r.place_is
+      let there : get_or (map signed_of kept) index (signed_of d) ≡ r.refused =
+      ap (λ xs. get_or xs index (signed_of d)) r.parts ∙ ap (λ k. get_or (r.before ++ r.refused ∷ r.after) k (signed_of d)) r.index_is
       ∙ get_or-append_seam r.before r.refused r.after (signed_of d) in
-      ap (λ s. s.item) (sym (get_or-map signed_of kept place d (signed_of d) refused_within) ∙ there)
+      ap (λ s. s.item) (sym (get_or-map signed_of kept index d (signed_of d) refused_within) ∙ there)

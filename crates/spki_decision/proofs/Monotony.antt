@@ -19,7 +19,7 @@ use Rattle.spki_decision.proofs.{Charges.{front_of, sum_kept}, OneDecision.{unli
 use Rattle.spki_decision.proofs.ChainRequirements.{leads_alone, leads_first, passes, supports}
 use Rattle.spki_cert.specs.declared.certificate.SeqItem.TheVariants as items
 
--- ---- places in lists
+-- ---- indices in lists
 
 in_front : {A : Type 0} (xs ys : List A) (k : ℕ) (x : A) → slice_get xs k ≡ Some x → slice_get (xs ++ ys) k ≡ Some x
 in_front [] ys k x e = absurd (none-some x e)
@@ -39,10 +39,10 @@ module _ (c : Case) (verified : Verified) (more : List Entry) where
 
   pub granted_longer : (n : ℕ) → Granted n c verified → Granted n longer verified
   granted_longer n g = record {
-    place = g.place;
+    index = g.index;
     numbered = g.numbered;
     entry = g.entry;
-    stands = in_front c.entries more g.place g.entry g.stands;
+    stands = in_front c.entries more g.index g.entry g.stands;
     tuples = g.tuples;
     shown = g.shown;
     supported = g.supported;
@@ -50,10 +50,10 @@ module _ (c : Case) (verified : Verified) (more : List Entry) where
 
   granted_already : (n : ℕ) → n ≤ length c.entries → Granted n longer verified → Granted n c verified
   granted_already n few g = record {
-    place = g.place;
+    index = g.index;
     numbered = g.numbered;
     entry = g.entry;
-    stands = from_front c.entries more g.place g.entry (let number = g.numbered in omega arith) g.stands;
+    stands = from_front c.entries more g.index g.entry (let number = g.numbered in omega arith) g.stands;
     tuples = g.tuples;
     shown = g.shown;
     supported = g.supported;
@@ -61,7 +61,7 @@ module _ (c : Case) (verified : Verified) (more : List Entry) where
 
   -- an entry that is granted by the shorter list is one of its entries
   among : (n : ℕ) → Granted n c verified → n ≤ length c.entries
-  among n g = let below = slice_get_within c.entries g.place g.entry g.stands in let number = g.numbered in omega arith
+  among n g = let below = slice_get_within c.entries g.index g.entry g.stands in let number = g.numbered in omega arith
 
   pub yes_longer : (n : ℕ) → IsDecision c verified (Yes n) → IsDecision longer verified (Yes n)
   yes_longer n d = record {
@@ -80,15 +80,15 @@ module _ (c : Case) (verified : Verified) (more : List Entry) where
   same_work tuples count work few is =
       subst (λ (xs : List Entry). IsSumOf (IsCharge c.policy c.uncounted tuples) xs work) (sym (front_of c.entries more count few)) is
 
-  same_large : (tuples : List Tuple) (place : ℕ) (e : Entry) → slice_get c.entries place ≡ Some e
-      → IsLarge c tuples e ⊎ IsOverspent c tuples place e → IsLarge longer tuples e ⊎ IsOverspent longer tuples place e
-  same_large tuples place e stands (inl h) = inl (record { at = h.at; large = h.large })
-  same_large tuples place e stands (inr h) =
-      let below = slice_get_within c.entries place e stands in
+  same_large : (tuples : List Tuple) (index : ℕ) (e : Entry) → slice_get c.entries index ≡ Some e
+      → IsLarge c tuples e ⊎ IsOverspent c tuples index e → IsLarge longer tuples e ⊎ IsOverspent longer tuples index e
+  same_large tuples index e stands (inl h) = inl (record { at = h.at; large = h.large })
+  same_large tuples index e stands (inr h) =
+      let below = slice_get_within c.entries index e stands in
       inr (record {
         counted = h.counted;
         before = h.before;
-        before_is = same_work tuples place h.before (omega (arith, below)) h.before_is;
+        before_is = same_work tuples index h.before (omega (arith, below)) h.before_is;
         steps = h.steps;
         within = h.within;
         here = h.here;
@@ -108,15 +108,15 @@ module _ (c : Case) (verified : Verified) (more : List Entry) where
   )
   decided_longer (Ok No) d other = absurd (other refl)
   decided_longer (Err TooLarge) d other =
-      let here = slice_get_within c.entries d.place d.entry d.stands in
+      let here = slice_get_within c.entries d.index d.entry d.stands in
       record {
-        place = d.place;
+        index = d.index;
         entry = d.entry;
-        stands = in_front c.entries more d.place d.entry d.stands;
+        stands = in_front c.entries more d.index d.entry d.stands;
         none_granted = λ n below g. d.none_granted n below (granted_already n (omega (arith, here, below)) g);
         tuples = d.tuples;
         shown = d.shown;
-        at = same_large d.tuples d.place d.entry d.stands d.at;
+        at = same_large d.tuples d.index d.entry d.stands d.at;
       }
   decided_longer (Err Memory) d other = absurd d
 
@@ -125,9 +125,9 @@ module _ (c : Case) (verified : Verified) (more : List Entry) where
 module _ (c : Case) (verified : Verified) (some : List Entry) (are : AreAmong some c.entries) where
   pub no_shorter : IsDecision c verified No → IsDecision (with_entries c some) verified No
   no_shorter none = λ n g.
-      let at = are g.place g.entry g.stands in
+      let at = are g.index g.entry g.stands in
       none (suc at.0) (record {
-        place = at.0;
+        index = at.0;
         numbered = refl;
         entry = g.entry;
         stands = at.1;
@@ -303,8 +303,8 @@ module _ (c : Case) (moment : List ℕ) where
   -- the certificates behind the first item are timely too
   timely_behind : (item : SeqItem) (sequence : List SeqItem) → AreTimely moment (item ∷ sequence) → AreTimely moment sequence
   timely_behind item sequence a = record {
-    windows = λ place cert stands. a.windows (suc place) cert stands;
-    name_windows = λ place cert stands. a.name_windows (suc place) cert stands;
+    windows = λ index cert stands. a.windows (suc index) cert stands;
+    name_windows = λ index cert stands. a.name_windows (suc index) cert stands;
   }
 
   module _ (policy : Policy) (keys : List (List ℕ)) (verified : Verified) where
@@ -330,14 +330,14 @@ module _ (c : Case) (moment : List ℕ) where
     windows_then n (items.DoHash alg ∷ sequence) ts zip a = windows_then (suc n) sequence ts zip (timely_behind (items.DoHash alg) sequence a)
     windows_then n (items.Signature s ∷ sequence) ts zip a = windows_then (suc n) sequence ts zip (timely_behind (items.Signature s) sequence a)
 
-  module _ (verified : Verified) (n place : ℕ) (e : Entry) (number : n ≡ suc place) (stands : slice_get c.entries place ≡ Some e)
+  module _ (verified : Verified) (n index : ℕ) (e : Entry) (number : n ≡ suc index) (stands : slice_get c.entries index ≡ Some e)
       (here : within moment e.window ≡ true) (all : AreTimely moment c.items) where
     pub granted_then : Granted n c verified → Granted n (at_moment c moment) verified
     granted_then g =
-        let same_place : g.place ≡ place = (let other = g.numbered in omega arith) in
-        let same : g.entry ≡ e = same_Some g.entry e (sym g.stands ∙ ap (slice_get c.entries) same_place ∙ stands) in
+        let same_index : g.index ≡ index = (let other = g.numbered in omega arith) in
+        let same : g.entry ≡ e = same_Some g.entry e (sym g.stands ∙ ap (slice_get c.entries) same_index ∙ stands) in
         record {
-          place = place;
+          index = index;
           numbered = number;
           entry = e;
           stands = stands;
@@ -370,22 +370,22 @@ module _ (c : Case) (moment : List ℕ) where
     pub answer_then : IsDecided c verified (Ok (Yes n)) → (x : Result Decision GuardFault) → IsDecided (at_moment c moment) verified x
         → (m : ℕ) × (x ≡ Ok (Yes m)) × (m ≤ n)
     answer_then d (Ok other) k = let yes = yes_then d.0.granted other k.0 in (yes.0, ap Ok yes.1, yes.2)
-    answer_then d (Err TooLarge) k = elim (cases_lt n (suc k.place)) [
+    answer_then d (Err TooLarge) k = elim (cases_lt n (suc k.index)) [
       | inl behind ↦ absurd (k.none_granted n behind (granted_then d.0.granted))
       | inr before ↦
           let small = d.1 k.tuples k.shown in
-          absurd (unlike c k.tuples n small.0 small.1 k.place k.entry (omega (arith, before)) k.stands (large_then k.tuples k.place k.entry k.at))
+          absurd (unlike c k.tuples n small.0 small.1 k.index k.entry (omega (arith, before)) k.stands (large_then k.tuples k.index k.entry k.at))
     ]
     answer_then d (Err Memory) k = absurd k
 
 -- ---- entries of a list that are narrower
 
-narrowed_at : (narrow wide : List Entry) (place : ℕ) (e : Entry) → AllZip IsNarrowerEntry narrow wide → slice_get narrow place ≡ Some e
-    → (f : Entry) × (slice_get wide place ≡ Some f) × IsNarrowerEntry e f
-narrowed_at [] wide place e zip stands = absurd (none-some e stands)
-narrowed_at (x ∷ narrow) [] place e zip stands = absurd zip
+narrowed_at : (narrow wide : List Entry) (index : ℕ) (e : Entry) → AllZip IsNarrowerEntry narrow wide → slice_get narrow index ≡ Some e
+    → (f : Entry) × (slice_get wide index ≡ Some f) × IsNarrowerEntry e f
+narrowed_at [] wide index e zip stands = absurd (none-some e stands)
+narrowed_at (x ∷ narrow) [] index e zip stands = absurd zip
 narrowed_at (x ∷ narrow) (y ∷ wide) zero e zip stands = (y, refl, subst (λ (z : Entry). IsNarrowerEntry z y) (same_Some x e stands) zip.0)
-narrowed_at (x ∷ narrow) (y ∷ wide) (suc place) e zip stands = narrowed_at narrow wide place e zip.1 stands
+narrowed_at (x ∷ narrow) (y ∷ wide) (suc index) e zip stands = narrowed_at narrow wide index e zip.1 stands
 
 -- an authorization is no wider than itself
 itself : (t : Tuple) → IsNarrower t t
@@ -411,10 +411,10 @@ module _ (verified : Verified) (narrow wide : Case) (is : IsNarrowerCase verifie
 
   pub granted_wider : (n : ℕ) → IsRequest wide.request → is_date wide.moment ≡ true → Granted n narrow verified → Granted n wide verified
   granted_wider n asked date g =
-      let at = narrowed_at narrow.entries wide.entries g.place g.entry is.entries g.stands in
+      let at = narrowed_at narrow.entries wide.entries g.index g.entry is.entries g.stands in
       let others = is.certificates g.tuples g.shown in
       record {
-        place = g.place;
+        index = g.index;
         numbered = g.numbered;
         entry = at.0;
         stands = at.1;

@@ -21,21 +21,21 @@ use Rattle.spki_decision.specs.declared.reduction.Reduction.TheVariants as reduc
 -- ---- a case has a decision that skips no refusal, or is refused, but not both
 
 -- if the first `count` entries have small chains, and their work is within the limit, none of them is too large or over the limit
-pub unlike : (c : Case) (tuples : List Tuple) (count : ℕ) → SmallBefore c tuples count → IsWithinWork c tuples count → (place : ℕ) (e : Entry)
-    → place < count → slice_get c.entries place ≡ Some e → IsLarge c tuples e ⊎ IsOverspent c tuples place e → ⊥
-unlike c tuples count small worked place e below stands (inl h) = small place e below stands h.at
-unlike c tuples count small worked place e below stands (inr h) = not_overspent c tuples place count e below stands worked h
+pub unlike : (c : Case) (tuples : List Tuple) (count : ℕ) → SmallBefore c tuples count → IsWithinWork c tuples count → (index : ℕ) (e : Entry)
+    → index < count → slice_get c.entries index ≡ Some e → IsLarge c tuples e ⊎ IsOverspent c tuples index e → ⊥
+unlike c tuples count small worked index e below stands (inl h) = small index e below stands h.at
+unlike c tuples count small worked index e below stands (inr h) = not_overspent c tuples index count e below stands worked h
 
 pub not_both : (c : Case) (verified : Verified) (d : Decision) → IsDecision c verified d → IsUnrefused c verified d
     → ¬ IsTooLarge c verified
 not_both c verified (Yes n) decision small large =
-    let behind : ¬ (n < suc large.place) = λ less. large.none_granted n less decision.granted in
+    let behind : ¬ (n < suc large.index) = λ less. large.none_granted n less decision.granted in
     let up_to = small large.tuples large.shown in
-    unlike c large.tuples n up_to.0 up_to.1 large.place large.entry (omega (arith, behind)) large.stands large.at
+    unlike c large.tuples n up_to.0 up_to.1 large.index large.entry (omega (arith, behind)) large.stands large.at
 not_both c verified No decision small large =
     let all = small large.tuples large.shown in
-    unlike c large.tuples (length c.entries) all.0 all.1 large.place large.entry
-    (slice_get_within c.entries large.place large.entry large.stands) large.stands large.at
+    unlike c large.tuples (length c.entries) all.0 all.1 large.index large.entry
+    (slice_get_within c.entries large.index large.entry large.stands) large.stands large.at
 
 -- ---- a case has one reduction
 
@@ -104,9 +104,9 @@ module _ (c : Case) (verified : Verified) where
 
   apart : (tuples : List Tuple) → AllSmall c tuples → IsWithinWork c tuples (length c.entries) → HasLargeTags c tuples ⊎ HasMuchWork c tuples → ⊥
   apart tuples small worked (inl h) =
-      unlike c tuples (length c.entries) small worked h.place h.entry (slice_get_within c.entries h.place h.entry h.stands) h.stands (inl h.is)
+      unlike c tuples (length c.entries) small worked h.index h.entry (slice_get_within c.entries h.index h.entry h.stands) h.stands (inl h.is)
   apart tuples small worked (inr h) =
-      unlike c tuples (length c.entries) small worked h.place h.entry (slice_get_within c.entries h.place h.entry h.stands) h.stands (inr h.spent)
+      unlike c tuples (length c.entries) small worked h.index h.entry (slice_get_within c.entries h.index h.entry h.stands) h.stands (inr h.spent)
 
   -- if no chain is too large, and the work is within its limit, the case is not refused as too large
   all_small : (tuples : List Tuple) → AreShown c.policy verified c.items tuples → AllSmall c tuples → IsWithinWork c tuples (length c.entries)

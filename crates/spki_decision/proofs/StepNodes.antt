@@ -5,7 +5,7 @@ use Rattle.std.specs.Prelude.{nat_le, not, ◌&&◌}
 use Rattle.spki_tag.{specs.Tag.{Tag, nodes, tags, nests_set, some_nests_set}, proofs.MeetSizes.{nodes-some}}
 use Rattle.spki_reduce.specs.{declared.tuple.Step.{Step}, Reduction.{Tuple, tags_of, step_tuple, nodes_product}, Chain.{tuples_of, all_tags}}
 use Rattle.spki_reduce.proofs.ReducedForms.{nodes_product-append}
-use Rattle.spki_decision.specs.Spared.{nodes_in, nodes_together, most_of_one, has_small_product, is_plain, is_spared}
+use Rattle.spki_decision.specs.Spared.{nodes_in, nodes_together, max_of_one, has_small_product, is_plain, is_spared}
 use Rattle.spki_decision.proofs.{ChainRequirements.{more_tuples, more_tags}, EntryChains.{append-sets, one_at_least, and_false}}
 
 together-append : (ts us : List Tuple) → nodes_together (ts ++ us) ≡ nodes_together ts + nodes_together us
@@ -15,9 +15,9 @@ together-append (t ∷ ts) us = omega (arith, together-append ts us)
 pub together-more : (ts : List Tuple) (t : Tuple) → nodes_together (ts ++ t ∷ []) ≡ nodes_together ts + nodes_in t
 together-more ts t = omega (arith, together-append ts (t ∷ []))
 
-pub most-more : (ts : List Tuple) (t : Tuple) → most_of_one (ts ++ t ∷ []) ≡ max (most_of_one ts) (nodes_product (tags_of t))
-most-more [] t = omega arith
-most-more (u ∷ ts) t = omega (arith, most-more ts t)
+pub max_of_one-more : (ts : List Tuple) (t : Tuple) → max_of_one (ts ++ t ∷ []) ≡ max (max_of_one ts) (nodes_product (tags_of t))
+max_of_one-more [] t = omega arith
+max_of_one-more (u ∷ ts) t = omega (arith, max_of_one-more ts t)
 
 product-some : (ts : List Tag) → 1 ≤ nodes_product ts
 product-some [] = omega arith
@@ -30,9 +30,9 @@ unspared tuples tag =
     let product = nodes_product (all_tags tuples) in
     let all = nodes tag + nodes_together tuples in
     let some : 1 * product ≤ nodes tag * product = mul-le-mul_right product (nodes-some tag) in
-    let many : all * 1 ≤ all * most_of_one tuples = mul-le-mul_left all (one_at_least tuples) in
+    let many : all * 1 ≤ all * max_of_one tuples = mul-le-mul_left all (one_at_least tuples) in
     let small : has_small_product 0 tuples tag ≡ false = lt-leb (nodes tag * product) 0 (omega (arith, some, product-some (all_tags tuples))) in
-    let over : nat_le (all * most_of_one tuples) 0 ≡ false = lt-leb (all * most_of_one tuples) 0 (omega (arith, many, nodes-some tag)) in
+    let over : nat_le (all * max_of_one tuples) 0 ≡ false = lt-leb (all * max_of_one tuples) 0 (omega (arith, many, nodes-some tag)) in
     let sets = not (nests_set tag) && not (some_nests_set (tags (all_tags tuples))) in
     or_from (has_small_product 0 tuples tag) (is_plain 0 tuples tag) small (ap (λ (b : Bool). sets && b) over ∙ and_false sets)
 

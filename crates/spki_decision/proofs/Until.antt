@@ -19,10 +19,10 @@ use Rattle.spki_cert.specs.declared.certificate.SeqItem.TheVariants as items
 -- ---- the windows of two lists
 
 end_front : (xs ys : List Window) (limit : List ℕ) → IsEndOf xs limit → IsEndOf (xs ++ ys) limit
-end_front [] ys limit (place, w, there, is) = absurd (none-some w there)
+end_front [] ys limit (index, w, there, is) = absurd (none-some w there)
 end_front (x ∷ xs) ys limit (zero, w, there, is) = (zero, w, there, is)
-end_front (x ∷ xs) ys limit (suc place, w, there, is) =
-    let e = end_front xs ys limit (place, w, there, is) in (suc e.0, e.1, e.2, e.3)
+end_front (x ∷ xs) ys limit (suc index, w, there, is) =
+    let e = end_front xs ys limit (index, w, there, is) in (suc e.0, e.1, e.2, e.3)
 
 end_behind : (xs ys : List Window) (limit : List ℕ) → IsEndOf ys limit → IsEndOf (xs ++ ys) limit
 end_behind [] ys limit e = e
@@ -31,7 +31,7 @@ end_behind (x ∷ xs) ys limit e = let f = end_behind xs ys limit e in (suc f.0,
 end_of_either : (xs ys : List Window) (limit : List ℕ) → IsEndOf (xs ++ ys) limit → IsEndOf xs limit ⊎ IsEndOf ys limit
 end_of_either [] ys limit e = inr e
 end_of_either (x ∷ xs) ys limit (zero, w, there, is) = inl (zero, w, there, is)
-end_of_either (x ∷ xs) ys limit (suc place, w, there, is) = elim (end_of_either xs ys limit (place, w, there, is)) [
+end_of_either (x ∷ xs) ys limit (suc index, w, there, is) = elim (end_of_either xs ys limit (index, w, there, is)) [
   | inl e ↦ inl (suc e.0, e.1, e.2, e.3)
   | inr e ↦ inr e
 ]
@@ -43,13 +43,13 @@ least_same xs ys there back None none = λ other e. none other (back other e)
 least_same xs ys there back (Some limit) least = (there limit least.0, λ other e. least.1 other (back other e))
 
 pub no_end : IsLeastEnd [] None
-no_end other (place, w, there, is) = none-some w there
+no_end other (index, w, there, is) = none-some w there
 
 -- ---- one window more
 
 its_end : (w : Window) (other : List ℕ) → IsEndOf (w ∷ []) other → w.not_after ≡ Some other
 its_end w other (zero, v, there, is) = ap (λ (x : Window). x.not_after) (same_Some w v there) ∙ is
-its_end w other (suc place, v, there, is) = absurd (none-some v there)
+its_end w other (suc index, v, there, is) = absurd (none-some v there)
 
 module _ (windows : List Window) (w : Window) where
   -- a window without a not-after
@@ -151,64 +151,64 @@ module _ (now moment : List ℕ) (windows : List Window) (until : Option (List �
   ends_late None none before limit e = absurd (none limit e)
   ends_late (Some last) least before limit e = upto-then moment last limit before (least.1 limit e)
 
-  still_until : (w : Window) (place : ℕ) (limit : Option (List ℕ)) → slice_get windows place ≡ Some w → w.not_after ≡ limit
+  still_until : (w : Window) (index : ℕ) (limit : Option (List ℕ)) → slice_get windows index ≡ Some w → w.not_after ≡ limit
       → is_until until moment ≡ true → is_until limit moment ≡ true
-  still_until w place None there is before = refl
-  still_until w place (Some limit) there is before = ends_late until least before limit (place, w, there, is)
+  still_until w index None there is before = refl
+  still_until w index (Some limit) there is before = ends_late until least before limit (index, w, there, is)
 
-  still_within : (w : Window) (place : ℕ) → slice_get windows place ≡ Some w → upto now moment ≡ true → is_until until moment ≡ true
+  still_within : (w : Window) (index : ℕ) → slice_get windows index ≡ Some w → upto now moment ≡ true → is_until until moment ≡ true
       → within now w ≡ true → within moment w ≡ true
-  still_within w place there later before h =
+  still_within w index there later before h =
       let both = and_parts (is_from w.not_before now) (is_until w.not_after now) h in
       and_from (is_from w.not_before moment) (is_until w.not_after moment) (still_from w.not_before later both.0)
-      (still_until w place w.not_after there refl before)
+      (still_until w index w.not_after there refl before)
 
 -- if a later moment is within each window that the first is within, it is within all
 each_then : (now moment : List ℕ) (ws : List Window)
-    → ((w : Window) (place : ℕ) → slice_get ws place ≡ Some w → within now w ≡ true → within moment w ≡ true)
+    → ((w : Window) (index : ℕ) → slice_get ws index ≡ Some w → within now w ≡ true → within moment w ≡ true)
     → within_each now ws ≡ true → within_each moment ws ≡ true
 each_then now moment [] still all = refl
 each_then now moment (w ∷ ws) still all =
     let both = and_parts (within now w) (within_each now ws) all in
     and_from (within moment w) (within_each moment ws) (still w zero refl both.0)
-    (each_then now moment ws (λ v place there. still v (suc place) there) both.1)
+    (each_then now moment ws (λ v index there. still v (suc index) there) both.1)
 
-within_there : (moment : List ℕ) (ws : List Window) (place : ℕ) (w : Window) → slice_get ws place ≡ Some w → within_each moment ws ≡ true
+within_there : (moment : List ℕ) (ws : List Window) (index : ℕ) (w : Window) → slice_get ws index ≡ Some w → within_each moment ws ≡ true
     → within moment w ≡ true
-within_there moment [] place w there all = absurd (none-some w there)
+within_there moment [] index w there all = absurd (none-some w there)
 within_there moment (v ∷ ws) zero w there all =
     subst (λ (x : Window). within moment x ≡ true) (same_Some v w there) (and_parts (within moment v) (within_each moment ws) all).0
-within_there moment (v ∷ ws) (suc place) w there all =
-    within_there moment ws place w there (and_parts (within moment v) (within_each moment ws) all).1
+within_there moment (v ∷ ws) (suc index) w there all =
+    within_there moment ws index w there (and_parts (within moment v) (within_each moment ws) all).1
 
 -- a moment that is within all windows is not after the least not-after
 not_over : (moment : List ℕ) (ws : List Window) (until : Option (List ℕ)) → IsLeastEnd ws until → within_each moment ws ≡ true
     → is_until until moment ≡ true
 not_over moment ws None least all = refl
-not_over moment ws (Some limit) ((place, w, there, is), least) all =
-    let h = within_there moment ws place w there all in
+not_over moment ws (Some limit) ((index, w, there, is), least) all =
+    let h = within_there moment ws index w there all in
     subst (λ (o : Option (List ℕ)). is_until o moment ≡ true) is (and_parts (is_from w.not_before moment) (is_until w.not_after moment) h).1
 
 module _ (c : Case) (verified : Verified) (moment : List ℕ) (grant : Grant) (holds : HoldsUntil c (Some grant)) where
   -- the least not-after of the entry's window and those of the tuples
-  least_of : (place : ℕ) (e : Entry) (tuples : List Tuple) → grant.entry ≡ suc place → slice_get c.entries place ≡ Some e
+  least_of : (index : ℕ) (e : Entry) (tuples : List Tuple) → grant.entry ≡ suc index → slice_get c.entries index ≡ Some e
       → AreShown c.policy verified c.items tuples → IsLeastEnd (e.window ∷ all_windows tuples) grant.until
-  least_of place e tuples number stands shown =
+  least_of index e tuples number stands shown =
       subst (λ (ws : List Window). IsLeastEnd (e.window ∷ ws) grant.until) (sym (windows_are c.policy verified c.items tuples shown))
-      (holds place e number stands)
+      (holds index e number stands)
 
   granted_till : upto c.moment moment ≡ true → is_until grant.until moment ≡ true → Granted grant.entry c verified
       → Granted grant.entry (at_moment c moment) verified
   granted_till later before g =
       let ws = g.entry.window ∷ all_windows g.tuples in
-      let least = least_of g.place g.entry g.tuples g.numbered g.stands g.shown in
+      let least = least_of g.index g.entry g.tuples g.numbered g.stands g.shown in
       let timely = (passes c g.tuples g.entry g.supported).timely in
       let all = each_then c.moment moment ws
-      (λ w place there h. still_within c.moment moment ws grant.until least w place there later before h)
+      (λ w index there h. still_within c.moment moment ws grant.until least w index there later before h)
       (and_from (within c.moment g.entry.window) (within_each c.moment (all_windows g.tuples)) timely.0 timely.1) in
       let both = and_parts (within moment g.entry.window) (within_each moment (all_windows g.tuples)) all in
       record {
-        place = g.place;
+        index = g.index;
         numbered = g.numbered;
         entry = g.entry;
         stands = g.stands;
@@ -225,7 +225,7 @@ module _ (c : Case) (verified : Verified) (moment : List ℕ) (grant : Grant) (h
   -- after it this entry is not granted
   pub none_after : is_until grant.until moment ≡ false → ¬ Granted grant.entry (at_moment c moment) verified
   none_after after g =
-      let least = least_of g.place g.entry g.tuples g.numbered g.stands g.shown in
+      let least = least_of g.index g.entry g.tuples g.numbered g.stands g.shown in
       let timely = (passes (at_moment c moment) g.tuples g.entry g.supported).timely in
       let all = and_from (within moment g.entry.window) (within_each moment (all_windows g.tuples)) timely.0 timely.1 in
       let clash : false ≡ true = sym after ∙ not_over moment (g.entry.window ∷ all_windows g.tuples) grant.until least all in

@@ -20,7 +20,7 @@ item_of (name cert) = items.Name cert
 -- The item with this number, from 1, is a certificate with its own signature (RFC 2693, section 6). The signature is the next item
 -- behind it, except operations. The digest in it is that of the certificate's octets. The key is that of the certificate's issuer,
 -- which names it, and the signature's signer names it too. The verifier accepts the value for this key and these octets. The
--- signature is listed among those that the verifier is asked about, at the place that the certificate has among the certificates.
+-- signature is listed among those that the verifier is asked about, at the index that the certificate has among the certificates.
 pub record IsSignedByIssuer (c : Case) (verified : Verified) (number : ℕ) (certificate : Certificate) (behind : List SeqItem) : Type 0 where
   pub signature : signature.Signature
   pub follows : signature_in behind ≡ Some signature
@@ -30,10 +30,10 @@ pub record IsSignedByIssuer (c : Case) (verified : Verified) (number : ℕ) (cer
   pub issuer : IsTrue (names c.policy (issuer_of certificate) holder)
   pub signer : IsTrue (names c.policy signature.signer holder)
   pub accepted : verified holder (octets_of certificate) signature.value
-  pub place : ℕ
-  pub stands : slice_get (certificates c.items) place
+  pub index : ℕ
+  pub stands : slice_get (certificates c.items) index
       ≡ Some (record { item = number; certificate = certificate; signature = Some signature })
-  pub listed : slice_get (asked c) place
+  pub listed : slice_get (asked c) index
       ≡ Some (record { item = number; key = holder; message = octets_of certificate; value = signature.value })
 
 -- ---- no amplification
@@ -44,10 +44,10 @@ pub record IsSignedByIssuer (c : Case) (verified : Verified) (number : ℕ) (cer
 pub record IsHeldThroughout (c : Case) (tuples : List Tuple) (e : Entry) : Type 0 where
   pub entry_tag : contains e.tag c.request ≡ true
   pub entry_window : within c.moment e.window ≡ true
-  pub entry_delegates : (place : ℕ) (t : FiveTuple) → slice_get tuples place ≡ Some (five t) → e.propagate ≡ true
-  pub tags : (place : ℕ) (t : FiveTuple) → slice_get tuples place ≡ Some (five t) → in_each c.request t.tags ≡ true
-  pub windows : (place : ℕ) (t : Tuple) → slice_get tuples place ≡ Some t → within_each c.moment (windows_of t) ≡ true
-  pub delegates : (place later : ℕ) (t u : FiveTuple) → place < later → slice_get tuples place ≡ Some (five t)
+  pub entry_delegates : (index : ℕ) (t : FiveTuple) → slice_get tuples index ≡ Some (five t) → e.propagate ≡ true
+  pub tags : (index : ℕ) (t : FiveTuple) → slice_get tuples index ≡ Some (five t) → in_each c.request t.tags ≡ true
+  pub windows : (index : ℕ) (t : Tuple) → slice_get tuples index ≡ Some t → within_each c.moment (windows_of t) ≡ true
+  pub delegates : (index later : ℕ) (t u : FiveTuple) → index < later → slice_get tuples index ≡ Some (five t)
       → slice_get tuples later ≡ Some (five u) → t.delegation ≡ true
 
 -- The same of an entry and of the certificates of a sequence: authorization certificates, and name certificates, which have no tag and
@@ -55,11 +55,11 @@ pub record IsHeldThroughout (c : Case) (tuples : List Tuple) (e : Entry) : Type 
 pub record IsHeldByAll (c : Case) (e : Entry) : Type 0 where
   pub entry_tag : contains e.tag c.request ≡ true
   pub entry_window : within c.moment e.window ≡ true
-  pub entry_delegates : (place : ℕ) (cert : AuthCert) → slice_get c.items place ≡ Some (items.Auth cert) → e.propagate ≡ true
-  pub tags : (place : ℕ) (cert : AuthCert) → slice_get c.items place ≡ Some (items.Auth cert) → contains cert.tag c.request ≡ true
-  pub windows : (place : ℕ) (cert : AuthCert) → slice_get c.items place ≡ Some (items.Auth cert) → within c.moment cert.window ≡ true
-  pub name_windows : (place : ℕ) (cert : NameCert) → slice_get c.items place ≡ Some (items.Name cert) → within c.moment cert.window ≡ true
-  pub delegates : (place later : ℕ) (cert other : AuthCert) → place < later → slice_get c.items place ≡ Some (items.Auth cert)
+  pub entry_delegates : (index : ℕ) (cert : AuthCert) → slice_get c.items index ≡ Some (items.Auth cert) → e.propagate ≡ true
+  pub tags : (index : ℕ) (cert : AuthCert) → slice_get c.items index ≡ Some (items.Auth cert) → contains cert.tag c.request ≡ true
+  pub windows : (index : ℕ) (cert : AuthCert) → slice_get c.items index ≡ Some (items.Auth cert) → within c.moment cert.window ≡ true
+  pub name_windows : (index : ℕ) (cert : NameCert) → slice_get c.items index ≡ Some (items.Name cert) → within c.moment cert.window ≡ true
+  pub delegates : (index later : ℕ) (cert other : AuthCert) → index < later → slice_get c.items index ≡ Some (items.Auth cert)
       → slice_get c.items later ≡ Some (items.Auth other) → cert.propagate ≡ true
 
 -- the same case, asked for another key
@@ -69,14 +69,14 @@ for_key c holder = record c { key = holder }
 -- The issuer of each authorization has what it gives (RFC 2693, section 6.3): the entry and the tuples before the authorization support
 -- the same request, at the same moment, for its issuer's key.
 abbrev pub HaveIssuers : Case → List Tuple → Entry → Type 0
-HaveIssuers c tuples e = (place : ℕ) (t : FiveTuple) → slice_get tuples place ≡ Some (five t)
-    → (holder : List ℕ) × (t.issuer ≡ key holder) × Supported (for_key c holder) (take place tuples) e
+HaveIssuers c tuples e = (index : ℕ) (t : FiveTuple) → slice_get tuples index ≡ Some (five t)
+    → (holder : List ℕ) × (t.issuer ≡ key holder) × Supported (for_key c holder) (take index tuples) e
 
 -- ---- fewer entries
 
 -- each of some entries is an entry of a list
 abbrev pub AreAmong : List Entry → List Entry → Type 0
-AreAmong some entries = (place : ℕ) (e : Entry) → slice_get some place ≡ Some e → (at : ℕ) × (slice_get entries at ≡ Some e)
+AreAmong some entries = (index : ℕ) (e : Entry) → slice_get some index ≡ Some e → (at : ℕ) × (slice_get entries at ≡ Some e)
 
 -- ---- narrower tuples
 
@@ -128,5 +128,5 @@ at_moment c moment = record c { moment = moment }
 
 -- The window of each certificate of a sequence, also of a name certificate, contains the moment.
 pub record AreTimely (moment : List ℕ) (sequence : List SeqItem) : Type 0 where
-  pub windows : (place : ℕ) (cert : AuthCert) → slice_get sequence place ≡ Some (items.Auth cert) → within moment cert.window ≡ true
-  pub name_windows : (place : ℕ) (cert : NameCert) → slice_get sequence place ≡ Some (items.Name cert) → within moment cert.window ≡ true
+  pub windows : (index : ℕ) (cert : AuthCert) → slice_get sequence index ≡ Some (items.Auth cert) → within moment cert.window ≡ true
+  pub name_windows : (index : ℕ) (cert : NameCert) → slice_get sequence index ≡ Some (items.Name cert) → within moment cert.window ≡ true

@@ -77,7 +77,7 @@ pub record FailsIn
   pub after : List Shown
   pub parts : shown ≡ before ++ failing ∷ after
   pub standing : AllByRecursion (λ s. (holder : List ℕ) × PassesTests policy keys verified s holder) before
-  pub place : item ≡ failing.item
+  pub index : item ≡ failing.item
   pub fails : FailsBy policy keys verified failing stop
 
 -- `FailsIn` of the certificates of a sequence, with the keys that it shows
@@ -133,19 +133,19 @@ AgreeOn one other signatures = AllByRecursion (λ s. (IsAccepted one s → IsAcc
 abbrev pub every : Verified
 every key message value = Unit {0}
 
--- This is the first of some signatures that is not accepted, if there is one; its place is counted from 0.
-pub record RefusedAt (verified : Verified) (signatures : List Signed) (place : ℕ) : Type 0 where
+-- This is the first of some signatures that is not accepted, if there is one; its index is counted from 0.
+pub record RefusedAt (verified : Verified) (signatures : List Signed) (index : ℕ) : Type 0 where
   pub before : List Signed
   pub refused : Signed
   pub after : List Signed
   pub parts : signatures ≡ before ++ refused ∷ after
-  pub place_is : place ≡ length before
+  pub index_is : index ≡ length before
   pub accepted : AllByRecursion (IsAccepted verified) before
   pub not_accepted : ¬ IsAccepted verified refused
 
 abbrev pub IsFirstRefused : Verified → List Signed → Option ℕ → Type 0
 IsFirstRefused verified signatures None = AllByRecursion (IsAccepted verified) signatures
-IsFirstRefused verified signatures (Some place) = RefusedAt verified signatures place
+IsFirstRefused verified signatures (Some index) = RefusedAt verified signatures index
 
 -- ---- how the code represents certificates
 

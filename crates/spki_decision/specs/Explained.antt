@@ -50,7 +50,7 @@ pub record AreReasons (c : Case) (verified : Verified) (reasons : List Reason) :
   pub each : AllZip (IsReason c tuples) c.entries reasons
   pub within_limit : AllSmall c tuples
   pub worked : IsWithinWork c tuples (length c.entries)
-  pub grants : (place : ℕ) → (slice_get reasons place ≡ Some Grants) ↔ Granted (suc place) c verified
+  pub grants : (index : ℕ) → (slice_get reasons index ≡ Some Grants) ↔ Granted (suc index) c verified
 
 -- the first certificate that fails a test, or the reasons of the entries
 abbrev pub IsExplanation : Case → Verified → Explanation → Type 0
@@ -68,10 +68,10 @@ IsSameExplanation (Entries reasons) (Entries others) = reasons.items ≡ others.
 
 -- The reason of entry number n, from 1, is the first that is Grants.
 pub record IsFirstGrant (reasons : List Reason) (n : ℕ) : Type 0 where
-  pub place : ℕ
-  pub numbered : n ≡ suc place
-  pub here : slice_get reasons place ≡ Some Grants
-  pub none_before : (k : ℕ) → k < place → slice_get reasons k ≢ Some Grants
+  pub index : ℕ
+  pub numbered : n ≡ suc index
+  pub here : slice_get reasons index ≡ Some Grants
+  pub none_before : (k : ℕ) → k < index → slice_get reasons k ≢ Some Grants
 
 -- a decision names the first entry whose reason is Grants; it is no if there is none, or if a certificate fails a test
 abbrev pub Agrees : Explanation → Decision → Type 0

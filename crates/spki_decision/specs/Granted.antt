@@ -18,18 +18,18 @@ use Rattle.spki_decision.specs.{Spared.{is_spared}, CertificateTests.{AreShown, 
 abbrev pub Supported : Case → List Tuple → Entry → Type 0
 Supported c tuples e = IsSupported c.policy (five (entry_tuple e)) tuples c.key c.request c.moment
 
--- no entry before a place supports it
+-- no entry before an index supports it
 abbrev pub NoneBefore : Case → List Tuple → ℕ → Type 0
-NoneBefore c tuples place = (k : ℕ) (e : Entry) → k < place → slice_get c.entries k ≡ Some e → ¬ Supported c tuples e
+NoneBefore c tuples index = (k : ℕ) (e : Entry) → k < index → slice_get c.entries k ≡ Some e → ¬ Supported c tuples e
 
 -- entry number n, from 1, is the first that supports it
 pub record IsFirstSupported (c : Case) (tuples : List Tuple) (n : ℕ) : Type 0 where
-  pub place : ℕ
-  pub numbered : n ≡ suc place
+  pub index : ℕ
+  pub numbered : n ≡ suc index
   pub entry : Entry
-  pub stands : slice_get c.entries place ≡ Some entry
+  pub stands : slice_get c.entries index ≡ Some entry
   pub supported : Supported c tuples entry
-  pub none_before : NoneBefore c tuples place
+  pub none_before : NoneBefore c tuples index
 
 -- a decision names this entry, or no entry does
 abbrev pub Names : Case → List Tuple → Decision → Type 0
@@ -62,25 +62,25 @@ IsEntryWork c tuples count n = IsSumOf (IsCharge c.policy c.uncounted tuples) (t
 pub record IsWithinWork (c : Case) (tuples : List Tuple) (count : ℕ) : Type 0 where
   pub work : ℕ
   pub is : IsEntryWork c tuples count work
-  pub within : work ≤ c.most_work
+  pub within : work ≤ c.max_work
 
--- The work of the entries before a place, and of some steps of the chain of the entry there, is over the case's limit.
-pub record IsOverspent (c : Case) (tuples : List Tuple) (place : ℕ) (entry : Entry) : Type 0 where
+-- The work of the entries before an index, and of some steps of the chain of the entry there, is over the case's limit.
+pub record IsOverspent (c : Case) (tuples : List Tuple) (index : ℕ) (entry : Entry) : Type 0 where
   pub counted : is_spared c.uncounted tuples entry.tag ≡ false
   pub before : ℕ
-  pub before_is : IsEntryWork c tuples place before
+  pub before_is : IsEntryWork c tuples index before
   pub steps : ℕ
   pub within : steps ≤ length tuples
   pub here : ℕ
   pub here_is : IsWorkOf c.policy (five (entry_tuple entry)) tuples steps here
-  pub over : c.most_work < before + here
+  pub over : c.max_work < before + here
 
 -- ---- sizes
 
--- no entry before a place has a chain that is too large at a step
+-- no entry before an index has a chain that is too large at a step
 abbrev pub SmallBefore : Case → List Tuple → ℕ → Type 0
-SmallBefore c tuples place =
-    (k : ℕ) (e : Entry) → k < place → slice_get c.entries k ≡ Some e → ¬ TooLargeAt c.most_nodes c.policy (five (entry_tuple e)) tuples
+SmallBefore c tuples index =
+    (k : ℕ) (e : Entry) → k < index → slice_get c.entries k ≡ Some e → ¬ TooLargeAt c.max_nodes c.policy (five (entry_tuple e)) tuples
 
 -- no entry has a chain that is too large at a step
 abbrev pub AllSmall : Case → List Tuple → Type 0
@@ -94,21 +94,21 @@ SmallUpTo c tuples No = AllSmall c tuples × IsWithinWork c tuples (length c.ent
 -- The chain of an entry is too large at a step, or the work up to some step of it is over the limit. No entry before it supports the
 -- request.
 pub record HasLarge (c : Case) (tuples : List Tuple) : Type 0 where
-  pub place : ℕ
+  pub index : ℕ
   pub entry : Entry
-  pub stands : slice_get c.entries place ≡ Some entry
-  pub none_before : NoneBefore c tuples place
-  pub at : TooLargeAt c.most_nodes c.policy (five (entry_tuple entry)) tuples ⊎ IsOverspent c tuples place entry
+  pub stands : slice_get c.entries index ≡ Some entry
+  pub none_before : NoneBefore c tuples index
+  pub at : TooLargeAt c.max_nodes c.policy (five (entry_tuple entry)) tuples ⊎ IsOverspent c tuples index entry
 
 -- ---- what a case grants, in the model
 
 -- Entry number n, from 1, is granted (RFC 2693, section 6.3). Every certificate passes its tests. Some derivation from the entry and
 -- all certificates in their order, in any bracketing, supports the key, the request and the moment.
 pub record Granted (n : ℕ) (c : Case) (verified : Verified) : Type 0 where
-  pub place : ℕ
-  pub numbered : n ≡ suc place
+  pub index : ℕ
+  pub numbered : n ≡ suc index
   pub entry : Entry
-  pub stands : slice_get c.entries place ≡ Some entry
+  pub stands : slice_get c.entries index ≡ Some entry
   pub tuples : List Tuple
   pub shown : AreShown c.policy verified c.items tuples
   pub supported : Supported c tuples entry
@@ -127,19 +127,19 @@ IsNoneGranted c verified = (n : ℕ) → ¬ Granted n c verified
 -- The chain of an entry is too large at a step. No certificate before that step stops the chain, and the step's certificate joins it
 -- except for the tags. So the product of the nodes of the entry's tag and of the tags of all certificates is over the case's limit.
 pub record IsLarge (c : Case) (tuples : List Tuple) (entry : Entry) : Type 0 where
-  pub at : TooLargeAt c.most_nodes c.policy (five (entry_tuple entry)) tuples
-  pub large : c.most_nodes < nodes_product (all_tags (five (entry_tuple entry) ∷ tuples))
+  pub at : TooLargeAt c.max_nodes c.policy (five (entry_tuple entry)) tuples
+  pub large : c.max_nodes < nodes_product (all_tags (five (entry_tuple entry) ∷ tuples))
 
 -- Every certificate passes its tests, and there is an entry, with no granted entry before it, whose chain is too large at a step, or with which
 -- the work is over its limit.
 pub record IsTooLarge (c : Case) (verified : Verified) : Type 0 where
-  pub place : ℕ
+  pub index : ℕ
   pub entry : Entry
-  pub stands : slice_get c.entries place ≡ Some entry
-  pub none_granted : (n : ℕ) → n < suc place → ¬ Granted n c verified
+  pub stands : slice_get c.entries index ≡ Some entry
+  pub none_granted : (n : ℕ) → n < suc index → ¬ Granted n c verified
   pub tuples : List Tuple
   pub shown : AreShown c.policy verified c.items tuples
-  pub at : IsLarge c tuples entry ⊎ IsOverspent c tuples place entry
+  pub at : IsLarge c tuples entry ⊎ IsOverspent c tuples index entry
 
 -- ---- policies
 
@@ -182,7 +182,7 @@ pub record StopsAtItem (c : Case) (tuples : List Tuple) (e : Entry) (item : ℕ)
   pub stops : StopsAt c.policy (five (entry_tuple e)) tuples step cause
   pub excludes : Excludes c.policy (five (entry_tuple e)) tuples step cause
   pub certificate : Shown
-  pub there : slice_get (certificates c.items) stops.place ≡ Some certificate
+  pub there : slice_get (certificates c.items) stops.index ≡ Some certificate
   pub item_is : item ≡ certificate.item
 
 -- An entry and the certificates become this authorization, which is the entry's own if there are no certificates. Or they
@@ -200,10 +200,10 @@ IsOwn (Stopped item cause) = Unit {0}
 
 -- The work of some entries, and of some steps of the chain of the next entry, is over the case's limit.
 pub record HasMuchWork (c : Case) (tuples : List Tuple) : Type 0 where
-  pub place : ℕ
+  pub index : ℕ
   pub entry : Entry
-  pub stands : slice_get c.entries place ≡ Some entry
-  pub spent : IsOverspent c tuples place entry
+  pub stands : slice_get c.entries index ≡ Some entry
+  pub spent : IsOverspent c tuples index entry
 
 -- ---- reductions
 
@@ -259,9 +259,9 @@ EndAtDates (Entries folds) = AllByRecursion EndsAtDate folds.items
 
 -- the chain of some entry and these tuples is too large at a step
 pub record HasLargeTags (c : Case) (tuples : List Tuple) : Type 0 where
-  pub place : ℕ
+  pub index : ℕ
   pub entry : Entry
-  pub stands : slice_get c.entries place ≡ Some entry
+  pub stands : slice_get c.entries index ≡ Some entry
   pub is : IsLarge c tuples entry
 
 -- Every certificate passes its tests. Either the chain of some entry is too large at a step, so the product of the nodes of its tag and of the

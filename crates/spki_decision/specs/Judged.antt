@@ -83,14 +83,14 @@ pub record Says
 abbrev pub NamesNone : {F : Type 0} → Shared F (Bor Principal × (Bor (List ℕ) × Unit {0})) Bool → F → Principal → List (List ℕ) → Type 0
 NamesNone g names p keys = (k : ℕ) (key : List ℕ) → slice_get keys k ≡ Some key → Says g names p key false
 
--- the closure returns true for the principal and the key at this place, and false for each key before it
+-- the closure returns true for the principal and the key at this index, and false for each key before it
 pub record IsFirstNamed
-    {F : Type 0} (g : Shared F (Bor Principal × (Bor (List ℕ) × Unit {0})) Bool) (names : F) (p : Principal) (keys : List (List ℕ)) (place : ℕ)
+    {F : Type 0} (g : Shared F (Bor Principal × (Bor (List ℕ) × Unit {0})) Bool) (names : F) (p : Principal) (keys : List (List ℕ)) (index : ℕ)
     : Type 0 where
   pub key : List ℕ
-  pub stands : slice_get keys place ≡ Some key
+  pub stands : slice_get keys index ≡ Some key
   pub named : Says g names p key true
-  pub before : (k : ℕ) (other : List ℕ) → k < place → slice_get keys k ≡ Some other → Says g names p other false
+  pub before : (k : ℕ) (other : List ℕ) → k < index → slice_get keys k ≡ Some other → Says g names p other false
 
 -- ---- the keys of a sequence, by their digests
 

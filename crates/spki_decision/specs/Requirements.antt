@@ -8,7 +8,7 @@ use Rattle.spki_case.specs.Case.{Case, Verified}
 use Rattle.spki_decision.specs.declared.{decision.Decision.{Decision, TheVariants.{Yes, No}}, fault.GuardFault.{GuardFault}}
 use Rattle.spki_decision.specs.declared.{chain_requirement.ChainRequirement.{ChainRequirement}, required_subject.RequiredSubject.{RequiredSubject}}
 use Rattle.spki_decision.specs.declared.{budget.Budget.{Budget}, sizes.{Sizes.{Sizes}, PlainNodes.{PlainNodes}}}
-use Rattle.spki_decision.specs.{CertificateTests.{AreShown, with_entries}, Granted.{Supported}, Spared.{nodes_together, most_of_one}}
+use Rattle.spki_decision.specs.{CertificateTests.{AreShown, with_entries}, Granted.{Supported}, Spared.{nodes_together, max_of_one}}
 use Rattle.spki_tag.specs.Tag.{contains, Tag, tags, some_nests_set}
 
 -- ---- the entries that a question is about
@@ -60,7 +60,7 @@ kept_case c kept = with_entries c (map second kept)
 
 -- The same decision, with the number of an entry in the part replaced by its number in the list.
 abbrev pub IsRenumbered : List (ℕ × Entry) → Decision → Decision → Type 0
-IsRenumbered kept (Yes m) (Yes n) = (place : ℕ) × (e : Entry) × (m ≡ suc place) × (slice_get kept place ≡ Some (n, e))
+IsRenumbered kept (Yes m) (Yes n) = (index : ℕ) × (e : Entry) × (m ≡ suc index) × (slice_get kept index ≡ Some (n, e))
 IsRenumbered kept (Yes m) No = ⊥
 IsRenumbered kept No (Yes n) = ⊥
 IsRenumbered kept No No = Unit {0}
@@ -122,7 +122,7 @@ IsChainRequirement c tuples requirement = (e : Entry) → Supported c tuples e
 pub record ArePlain (tuples : List Tuple) (plain : PlainNodes) : Type 0 where
   pub no_set : some_nests_set (tags (all_tags tuples)) ≡ false
   pub all_nodes : plain.all ≡ nodes_together tuples
-  pub most_nodes : plain.largest ≡ most_of_one tuples
+  pub max_nodes : plain.largest ≡ max_of_one tuples
   pub few : (plain.all ≤ 1000000) × (plain.largest ≤ 1000000)
 
 -- `product` is the product of the nodes of the tuples' tags, or None if that is over 1,000,000. `plain` has the numbers of nodes of tags without
@@ -141,10 +141,10 @@ abbrev pub IsBudgetFor : List Tuple → Budget → Type 0
 IsBudgetFor tuples budget = AreSizes tuples budget.sizes
 
 -- For each entry with this tag, under each policy, no intersection of its chain is too large.
-pub record IsSmallFor (most : ℕ) (tuples : List Tuple) (tag : Tag) : Type 0 where
-  pub none_large : (e : Entry) → e.tag ≡ tag → (policy : Policy) → ¬ TooLargeAt most policy (five (entry_tuple e)) tuples
+pub record IsSmallFor (max_product : ℕ) (tuples : List Tuple) (tag : Tag) : Type 0 where
+  pub none_large : (e : Entry) → e.tag ≡ tag → (policy : Policy) → ¬ TooLargeAt max_product policy (five (entry_tuple e)) tuples
 
 -- The product of the nodes of a tag and of an authorization's tags is at most a limit. A definition has no tag.
 abbrev pub IsSmallWith : ℕ → Tag → Tuple → Type 0
-IsSmallWith most tag (five t) = nodes_product (tag ∷ t.tags) ≤ most
-IsSmallWith most tag (four t) = Unit {0}
+IsSmallWith max_product tag (five t) = nodes_product (tag ∷ t.tags) ≤ max_product
+IsSmallWith max_product tag (four t) = Unit {0}

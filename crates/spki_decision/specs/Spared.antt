@@ -15,19 +15,19 @@ nodes_together [] = 0
 nodes_together (t ∷ ts) = nodes_in t + nodes_together ts
 
 -- the nodes of the largest tuple's tags, at least 1
-abbrev pub most_of_one : List Tuple → ℕ
-most_of_one [] = 1
-most_of_one (t ∷ ts) = max (nodes_product (tags_of t)) (most_of_one ts)
+abbrev pub max_of_one : List Tuple → ℕ
+max_of_one [] = 1
+max_of_one (t ∷ ts) = max (nodes_product (tags_of t)) (max_of_one ts)
 
 -- the product of the nodes of a tag and of all tuples' tags is at most a limit
 abbrev pub has_small_product : ℕ → List Tuple → Tag → Bool
-has_small_product most tuples tag = nat_le (nodes tag * nodes_product (all_tags tuples)) most
+has_small_product max_product tuples tag = nat_le (nodes tag * nodes_product (all_tags tuples)) max_product
 
 -- No tag has a set, and the nodes of all together, times those of the largest tuple's tag, are at most a limit.
 abbrev pub is_plain : ℕ → List Tuple → Tag → Bool
-is_plain most tuples tag =
-    (not (nests_set tag) && not (some_nests_set (tags (all_tags tuples)))) && nat_le ((nodes tag + nodes_together tuples) * most_of_one tuples) most
+is_plain max_product tuples tag =
+    (not (nests_set tag) && not (some_nests_set (tags (all_tags tuples)))) && nat_le ((nodes tag + nodes_together tuples) * max_of_one tuples) max_product
 
 -- An entry with this tag is spared with these tuples: its chain is small by this limit.
 unfoldable pub is_spared : ℕ → List Tuple → Tag → Bool
-is_spared most tuples tag = has_small_product most tuples tag || is_plain most tuples tag
+is_spared max_product tuples tag = has_small_product max_product tuples tag || is_plain max_product tuples tag

@@ -12,7 +12,7 @@ use Rattle.spki_decision.specs.{Granted.{Supported}, Requirements.{IsChainRequir
 
 -- the limit is the not-after of one of the windows
 abbrev pub IsEndOf : List Window → List ℕ → Type 0
-IsEndOf windows limit = (place : ℕ) × (w : Window) × (slice_get windows place ≡ Some w) × (w.not_after ≡ Some limit)
+IsEndOf windows limit = (index : ℕ) × (w : Window) × (slice_get windows index ≡ Some w) × (w.not_after ≡ Some limit)
 
 -- The limit is the not-after of one of the windows, and not after that of any. There is none if none of them ends.
 abbrev pub IsLeastEnd : List Window → Option (List ℕ) → Type 0
@@ -47,7 +47,7 @@ decision_of (Some grant) = Yes grant.entry
 abbrev pub EndsWith : List Entry → List Window → Option Grant → Type 0
 EndsWith entries windows None = Unit {0}
 EndsWith entries windows (Some grant) =
-    (place : ℕ) (e : Entry) → grant.entry ≡ suc place → slice_get entries place ≡ Some e → IsLeastEnd (e.window ∷ windows) grant.until
+    (index : ℕ) (e : Entry) → grant.entry ≡ suc index → slice_get entries index ≡ Some e → IsLeastEnd (e.window ∷ windows) grant.until
 
 -- until when the yes of a case holds, by the windows of its entry and of its certificates
 abbrev pub HoldsUntil : Case → Option Grant → Type 0

@@ -19,15 +19,15 @@ pub struct Budget {
 }
 
 impl Budget {
-    /// The budget before the first entry: its work is the `most_work` of the case. `steps` are the tuples of all certificates of the
+    /// The budget before the first entry: its work is the `max_work` of the case. `steps` are the tuples of all certificates of the
     /// case, in order. The nodes of their tags are counted here once, not for each entry. With them it is tested whether the chain of an entry
     /// is small by the limit `Case::uncounted`, and so takes no work.
     pub fn of(case: &Case, steps: &[Step]) -> Budget
-        ensures work { work_left result ≡ Some case.now.most_work }
+        ensures work { work_left result ≡ Some case.now.max_work }
         ensures sizes { IsBudgetFor (tuples_of steps.now) result }
     {
         Budget {
-            work: Work::new(Some(case.most_work)),
+            work: Work::new(Some(case.max_work)),
             sizes: Sizes::of(steps),
         }
     }

@@ -175,8 +175,8 @@ pub fn certificates_of<'s, 'a>(
     ensures { IfOk result (λ shown. map shown_of shown.items ≡ certificates sequence.entry.now) }
 {
     let mut shown = Vec::new(alloc);
-    for (place, item) in sequence.iter().enumerate() {
-        push_certificate(&mut shown, place + 1, item, &sequence[place + 1..])?;
+    for (index, item) in sequence.iter().enumerate() {
+        push_certificate(&mut shown, index + 1, item, &sequence[index + 1..])?;
     }
     Ok(shown)
 }

@@ -50,7 +50,7 @@ impl Decision {
 ///
 /// `TooLarge` only if the certificates pass their tests, and one of two things is true of an entry with no granted entry before it. The tag of a
 /// certificate is too large for what the entry and the certificates before it became: the product of the nodes of both tags is over the
-/// case's `most_nodes`. Or the work of the entries up to this one is over `most_work`, where those with small chains, as `Case::uncounted` says,
+/// case's `max_nodes`. Or the work of the entries up to this one is over `max_work`, where those with small chains, as `Case::uncounted` says,
 /// do not count. `Memory` if memory ran out, here or in the verifier, or if a shared part has too many owners to count.
 #[tactic(auto, using(crate::proofs::EntryChains::one_fails, crate::proofs::CertificateTests::none_shown))]
 pub fn decide<V: Verifier>(alloc: Global, case: &Case, verifier: &V) -> Result<Decision, GuardFault>
@@ -121,9 +121,9 @@ fn require_small<'a, L: Ledger>(
 ) -> Result<(), ReduceFault>
     requires { IsBudgetFor (tuples_of steps.now) budget.old }
     ensures too_large { IsErrOf result ReduceFault.TooLarge →
-        TooLargeAt case.now.most_nodes case.now.policy (five (entry_tuple entry.now)) (tuples_of steps.now)
+        TooLargeAt case.now.max_nodes case.now.policy (five (entry_tuple entry.now)) (tuples_of steps.now)
         ⊎ IsOvercharged case.now.policy case.now.uncounted (tuples_of steps.now) entry.now (work_left budget.old) }
-    ensures within_limit { IfOk result (λ _. ¬ TooLargeAt case.now.most_nodes case.now.policy (five (entry_tuple entry.now)) (tuples_of steps.now)) }
+    ensures within_limit { IfOk result (λ _. ¬ TooLargeAt case.now.max_nodes case.now.policy (five (entry_tuple entry.now)) (tuples_of steps.now)) }
     ensures charged { OnOk result ((n : ℕ) × IsCharge case.now.policy case.now.uncounted (tuples_of steps.now) entry.now n
         × Takes (work_left budget.old) (work_left budget.new) n) }
     ensures sizes { IsBudgetFor (tuples_of steps.now) budget.new }

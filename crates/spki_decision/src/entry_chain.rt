@@ -21,7 +21,7 @@ use std::sync::ledger::Ledger;
 ///
 /// # Errors
 ///
-/// `TooLarge` if the product of the nodes of two tags that are to be intersected is over the case's `most_nodes`, or a step costs more than the
+/// `TooLarge` if the product of the nodes of two tags that are to be intersected is over the case's `max_nodes`, or a step costs more than the
 /// budget has left. `Memory` if memory ran out, or if a shared part has too many owners to count. What was taken from the budget before an
 /// error stays taken.
 pub(crate) fn fold_entry<'a, L: Ledger>(
@@ -43,9 +43,9 @@ pub(crate) fn fold_entry<'a, L: Ledger>(
         (HasMet (five (entry_tuple entry.now)) (tuples_of steps.now)) (λ step cause. Unit {0})) }
     ensures excluded { IfOk result (λ fold. MatchFold fold (λ f. Unit {0})
         (Excludes case.now.policy (five (entry_tuple entry.now)) (tuples_of steps.now))) }
-    ensures within_limit { IfOk result (λ fold. ¬ TooLargeAt case.now.most_nodes case.now.policy (five (entry_tuple entry.now)) (tuples_of steps.now)) }
+    ensures within_limit { IfOk result (λ fold. ¬ TooLargeAt case.now.max_nodes case.now.policy (five (entry_tuple entry.now)) (tuples_of steps.now)) }
     ensures too_large { IsErrOf result ReduceFault.TooLarge →
-        TooLargeAt case.now.most_nodes case.now.policy (five (entry_tuple entry.now)) (tuples_of steps.now)
+        TooLargeAt case.now.max_nodes case.now.policy (five (entry_tuple entry.now)) (tuples_of steps.now)
         ⊎ IsOvercharged case.now.policy case.now.uncounted (tuples_of steps.now) entry.now (work_left budget.old) }
     ensures charged { OnOk result ((n : ℕ) × IsCharge case.now.policy case.now.uncounted (tuples_of steps.now) entry.now n
         × Takes (work_left budget.old) (work_left budget.new) n) }
@@ -63,7 +63,7 @@ pub(crate) fn fold_entry<'a, L: Ledger>(
             own,
             steps,
             case.policy,
-            case.most_nodes,
+            case.max_nodes,
             &mut any,
             ticks,
         )
@@ -73,7 +73,7 @@ pub(crate) fn fold_entry<'a, L: Ledger>(
             own,
             steps,
             case.policy,
-            case.most_nodes,
+            case.max_nodes,
             &mut budget.work,
             ticks,
         )

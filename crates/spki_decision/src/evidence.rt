@@ -59,14 +59,14 @@ pub fn judge<'a, V: Verifier>(
     let examined = examine(alloc, sequence, policy)?;
     match first_refused(alloc, &examined.signed, verifier)? {
         None => Ok(examined.unverified.verified()),
-        Some(place) => Ok(Evidence::Fails {
-            item: examined.signed[place].item,
+        Some(index) => Ok(Evidence::Fails {
+            item: examined.signed[index].item,
             stop: Stop::NotAccepted,
         }),
     }
 }
 
-/// Returns the place, from 0, of the first of these signatures that the verifier does not accept. None if it accepts all of
+/// Returns the index, from 0, of the first of these signatures that the verifier does not accept. None if it accepts all of
 /// them.
 ///
 /// # Errors
@@ -80,9 +80,9 @@ pub fn first_refused<V: Verifier>(
 ) -> Result<Option<usize>, AllocError>
     ensures { IfOk result (IsFirstRefused (V.accepted verifier.now) (map signed_of signed.now)) }
 {
-    for (place, one) in signed.iter().enumerate() {
+    for (index, one) in signed.iter().enumerate() {
         if !is_accepted(alloc, verifier, one)? {
-            return Ok(Some(place));
+            return Ok(Some(index));
         }
     }
     Ok(None)

@@ -55,8 +55,8 @@ pub enum Explanation {
 /// # Errors
 ///
 /// `TooLarge` only if the certificates pass their tests, and one of two things is true. For some entry the tag of a certificate is too large
-/// for what the entry and the certificates before it became: the product of the nodes of both tags is over the case's `most_nodes`. Or the
-/// work of all entries together is over `most_work`, where those with small chains, as `Case::uncounted` says, do not count. `Memory` if memory
+/// for what the entry and the certificates before it became: the product of the nodes of both tags is over the case's `max_nodes`. Or the
+/// work of all entries together is over `max_work`, where those with small chains, as `Case::uncounted` says, do not count. `Memory` if memory
 /// ran out, here or in the verifier, or if a shared part has too many owners to count.
 #[tactic(auto, using(crate::proofs::EntryChains::as_many, crate::proofs::EntryChains::all_stand))]
 pub fn explain<V: Verifier>(

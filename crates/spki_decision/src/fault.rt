@@ -10,7 +10,7 @@ use thiserror::Error;
 #[derive(Clone, Copy, Debug, PartialEq, Eq, Error)]
 pub enum GuardFault {
     /// The product of the numbers of nodes of a certificate's tag, and of the tag of what the entry and the certificates before it
-    /// became, is over the case's `most_nodes`. Or the work of the entries (`spki_reduce::Work`) is over the case's `most_work`.
+    /// became, is over the case's `max_nodes`. Or the work of the entries (`spki_reduce::Work`) is over the case's `max_work`.
     #[error("the tags are too large")]
     TooLarge,
     /// Memory ran out, in this library or in the verifier. Or a tag or a list of names has too many owners to count.

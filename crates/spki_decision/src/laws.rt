@@ -88,11 +88,11 @@ pub fn no_refusal<V: Verifier>()
 
 /// An entry may be left out of an access list if its subject's principal does not name the key of the first certificate's issuer, or the
 /// client's key if no certificate is shown. Such an entry never grants the request. It joins no certificate, so its chain is never too large:
-/// no product of the nodes of two tags that it intersects is over the case's `most_nodes`.
+/// no product of the nodes of two tags that it intersects is over the case's `max_nodes`.
 pub fn left_out()
     ensures grants { (c : Case) (tuples : List Tuple) (e : Entry) → IsLeftOut c tuples e → ¬ Supported c tuples e }
     ensures small { (c : Case) (tuples : List Tuple) (e : Entry) → IsLeftOut c tuples e
-        → ¬ TooLargeAt c.most_nodes c.policy (five (entry_tuple e)) tuples }
+        → ¬ TooLargeAt c.max_nodes c.policy (five (entry_tuple e)) tuples }
 {}
 
 /// If entries that may be left out (`left_out`) are removed from an access list, and the others keep their numbers, the decision stays
@@ -112,11 +112,11 @@ pub fn decided_by_kept<V: Verifier>()
 /// `reduce_case` give the same answers with both, whatever else they accept. The decision is no if one of these signatures is not accepted.
 #[tactic(auto, using(crate::proofs::ListedSignatures::decided_by, crate::proofs::ListedSignatures::decision_by, crate::proofs::ListedSignatures::explained_by, crate::proofs::ListedSignatures::reduced_by, crate::proofs::ListedSignatures::no_by, crate::proofs::ListedSignatures::none_by))]
 pub fn asks_whole<V: Verifier>()
-    ensures refused { (verifier : V) (c : Case) (place : ℕ) (s : Signed) (x : Result Decision GuardFault)
-        → slice_get (asked c) place ≡ Some s → ¬ IsAccepted (V.accepted verifier) s → IsDecided c (V.accepted verifier) x
+    ensures refused { (verifier : V) (c : Case) (index : ℕ) (s : Signed) (x : Result Decision GuardFault)
+        → slice_get (asked c) index ≡ Some s → ¬ IsAccepted (V.accepted verifier) s → IsDecided c (V.accepted verifier) x
         → x ≡ Ok No }
-    ensures no { (verifier : V) (c : Case) (place : ℕ) (s : Signed) (d : Decision)
-        → slice_get (asked c) place ≡ Some s → ¬ IsAccepted (V.accepted verifier) s → IsDecision c (V.accepted verifier) d
+    ensures no { (verifier : V) (c : Case) (index : ℕ) (s : Signed) (d : Decision)
+        → slice_get (asked c) index ≡ Some s → ¬ IsAccepted (V.accepted verifier) s → IsDecision c (V.accepted verifier) d
         → d ≡ No }
     ensures decision { (one other : V) (c : Case) (x : Result Decision GuardFault)
         → AgreeOn (V.accepted one) (V.accepted other) (asked c) → IsDecided c (V.accepted one) x → IsDecided c (V.accepted other) x }
@@ -132,9 +132,9 @@ pub fn asks_whole<V: Verifier>()
 /// that of the certificate. Its signer names the key of the certificate's issuer, and the verifier accepts the signature for this key. The
 /// signature is listed among those that a verifier is asked about, in the order of the certificates.
 pub fn own_signatures<V: Verifier>()
-    ensures { (verifier : V) (c : Case) (n place : ℕ) (certificate : Certificate) → Granted n c (V.accepted verifier)
-        → slice_get c.items place ≡ Some (item_of certificate)
-        → IsSignedByIssuer c (V.accepted verifier) (suc place) certificate (drop (suc place) c.items) }
+    ensures { (verifier : V) (c : Case) (n index : ℕ) (certificate : Certificate) → Granted n c (V.accepted verifier)
+        → slice_get c.items index ≡ Some (item_of certificate)
+        → IsSignedByIssuer c (V.accepted verifier) (suc index) certificate (drop (suc index) c.items) }
 {}
 
 /// No key in a chain gives what it does not have. If an entry and tuples support the request, the tags of the entry and of all
@@ -144,8 +144,8 @@ pub fn own_signatures<V: Verifier>()
 pub fn no_amplification<V: Verifier>()
     ensures chain { (c : Case) (tuples : List Tuple) (e : Entry) → Supported c tuples e → IsHeldThroughout c tuples e }
     ensures issuers { (c : Case) (tuples : List Tuple) (e : Entry) → Supported c tuples e → HaveIssuers c tuples e }
-    ensures granted { (verifier : V) (c : Case) (n place : ℕ) (e : Entry) → Granted n c (V.accepted verifier)
-        → n ≡ suc place → slice_get c.entries place ≡ Some e → IsHeldByAll c e }
+    ensures granted { (verifier : V) (c : Case) (n index : ℕ) (e : Entry) → Granted n c (V.accepted verifier)
+        → n ≡ suc index → slice_get c.entries index ≡ Some e → IsHeldByAll c e }
 {}
 
 /// Entries that are appended to an access list change no yes, no number and no refusal `TooLarge`. A no may become a yes, with the number
@@ -192,15 +192,15 @@ pub fn narrower<V: Verifier>()
 pub fn other_moment<V: Verifier>()
     ensures chain { (c : Case) (moment : List ℕ) (tuples : List Tuple) (e : Entry) → Supported c tuples e
         → within moment e.window ≡ true → within_each moment (all_windows tuples) ≡ true → Supported (at_moment c moment) tuples e }
-    ensures granted { (verifier : V) (c : Case) (moment : List ℕ) (n place : ℕ) (e : Entry) → n ≡ suc place
-        → slice_get c.entries place ≡ Some e → within moment e.window ≡ true → AreTimely moment c.items
+    ensures granted { (verifier : V) (c : Case) (moment : List ℕ) (n index : ℕ) (e : Entry) → n ≡ suc index
+        → slice_get c.entries index ≡ Some e → within moment e.window ≡ true → AreTimely moment c.items
         → Granted n c (V.accepted verifier) → Granted n (at_moment c moment) (V.accepted verifier) }
-    ensures yes { (verifier : V) (c : Case) (moment : List ℕ) (n place : ℕ) (e : Entry) (d : Decision) → n ≡ suc place
-        → slice_get c.entries place ≡ Some e → within moment e.window ≡ true → AreTimely moment c.items
+    ensures yes { (verifier : V) (c : Case) (moment : List ℕ) (n index : ℕ) (e : Entry) (d : Decision) → n ≡ suc index
+        → slice_get c.entries index ≡ Some e → within moment e.window ≡ true → AreTimely moment c.items
         → Granted n c (V.accepted verifier) → IsDecision (at_moment c moment) (V.accepted verifier) d
         → (m : ℕ) × (d ≡ Yes m) × (m ≤ n) }
-    ensures answer { (verifier : V) (c : Case) (moment : List ℕ) (n place : ℕ) (e : Entry) (x : Result Decision GuardFault)
-        → n ≡ suc place → slice_get c.entries place ≡ Some e → within moment e.window ≡ true → AreTimely moment c.items
+    ensures answer { (verifier : V) (c : Case) (moment : List ℕ) (n index : ℕ) (e : Entry) (x : Result Decision GuardFault)
+        → n ≡ suc index → slice_get c.entries index ≡ Some e → within moment e.window ≡ true → AreTimely moment c.items
         → IsDecided c (V.accepted verifier) (Ok (Yes n)) → IsDecided (at_moment c moment) (V.accepted verifier) x
         → (m : ℕ) × (x ≡ Ok (Yes m)) × (m ≤ n) }
 {}

@@ -34,7 +34,7 @@ pub fn keys_of<'a>(alloc: Global, sequence: &[SeqItem<'a>]) -> Result<Vec<Key<'a
     Ok(keys)
 }
 
-/// Returns the place, from 0, of the first of `keys` that the principal names: the first for which the closure `names` returns
+/// Returns the index, from 0, of the first of `keys` that the principal names: the first for which the closure `names` returns
 /// true. None if there is none. The precondition of `names` must hold for the principal and each key. Allocates nothing.
 ///
 /// It is for programs that use this library. The caller supplies `names`, such as `Principal::names` under a policy, so that
@@ -48,11 +48,11 @@ pub fn first_named<F: Fn(&Principal, &Key) -> bool>(
     // The closure may be called with the principal and each of the keys.
     requires { (p : _) (k : _) → p.now ≡ principal.now → Contains keys.now k.now → F.pre names p k }
     ensures { MatchOption result (NamesNone F.Fn names principal.now keys.now)
-        (λ place. IsFirstNamed F.Fn names principal.now keys.now place) }
+        (λ index. IsFirstNamed F.Fn names principal.now keys.now index) }
 {
-    for (place, key) in keys.iter().enumerate() {
+    for (index, key) in keys.iter().enumerate() {
         if names(principal, key) {
-            return Some(place);
+            return Some(index);
         }
     }
     None

@@ -57,8 +57,8 @@ pub enum Reduction<'a> {
 /// # Errors
 ///
 /// `TooLarge` only if the certificates pass their tests, and one of two things is true. For some entry the tag of a certificate is too large
-/// for what the entry and the certificates before it became: the product of the nodes of both tags is over the case's `most_nodes`. Or the
-/// work of all entries together is over `most_work`, where those with small chains, as `Case::uncounted` says, do not count. `Memory` if memory
+/// for what the entry and the certificates before it became: the product of the nodes of both tags is over the case's `max_nodes`. Or the
+/// work of all entries together is over `max_work`, where those with small chains, as `Case::uncounted` says, do not count. `Memory` if memory
 /// ran out, here or in the verifier, or if a shared part has too many owners to count.
 #[tactic(auto, using(crate::proofs::EntryChains::as_many, crate::proofs::EntryChains::all_stand))]
 pub fn reduce_case<'a, V: Verifier>(
@@ -106,9 +106,9 @@ pub(crate) fn put_folds<'a, S: FoldSink<'a>>(
 {
     let shown = certificates_of(alloc, &case.sequence)?;
     let mut budget = Budget::of(case, steps);
-    for (place, entry) in acl.iter().enumerate() {
+    for (index, entry) in acl.iter().enumerate() {
         let fold = entry_fold(alloc, case, entry, &shown, steps, &mut budget)?;
-        sink.put(alloc, place + 1, fold)?;
+        sink.put(alloc, index + 1, fold)?;
     }
     Ok(())
 }
@@ -120,7 +120,7 @@ pub(crate) fn put_folds<'a, S: FoldSink<'a>>(
 ///
 /// # Errors
 ///
-/// `TooLarge` if the product of the nodes of two tags that are to be intersected is over the case's `most_nodes`, or the work is more than
+/// `TooLarge` if the product of the nodes of two tags that are to be intersected is over the case's `max_nodes`, or the work is more than
 /// the budget has. `Memory` if memory ran out, or if a shared part has too many owners to count. What was taken from the budget before an error stays
 /// taken.
 pub fn entry_fold<'a>(
@@ -140,14 +140,14 @@ pub fn entry_fold<'a>(
     ensures dated { IfOk result IsDated }
     ensures end { IfOk result EndsAtDate }
     ensures too_large { IsErrOf result GuardFault.TooLarge →
-        TooLargeAt case.now.most_nodes case.now.policy (five (entry_tuple entry.now)) (tuples_of steps.now)
+        TooLargeAt case.now.max_nodes case.now.policy (five (entry_tuple entry.now)) (tuples_of steps.now)
         ⊎ IsOvercharged case.now.policy case.now.uncounted (tuples_of steps.now) entry.now (work_left budget.old) }
     ensures charged { OnOk result ((n : ℕ) × IsCharge case.now.policy case.now.uncounted (tuples_of steps.now) entry.now n
         × Takes (work_left budget.old) (work_left budget.new) n) }
     // What was taken stays taken, also after an error: the work of some first steps.
     ensures left { TakesOfEntry (work_left budget.old) (work_left budget.new) case.now.policy case.now.uncounted (tuples_of steps.now) entry.now }
     ensures same_sizes { IsBudgetFor (tuples_of steps.now) budget.new }
-    ensures within_limit { IfOk result (λ fold. ¬ TooLargeAt case.now.most_nodes case.now.policy (five (entry_tuple entry.now)) (tuples_of steps.now)) }
+    ensures within_limit { IfOk result (λ fold. ¬ TooLargeAt case.now.max_nodes case.now.policy (five (entry_tuple entry.now)) (tuples_of steps.now)) }
 {
     // `Brand` and `Blank` are for a count of ticks, which exists only in contracts: see `spki_tag::Ticks`.
     entry_fold_with_new_count::<Brand>(alloc, case, entry, shown, steps, budget, Blank::new(1))
@@ -177,13 +177,13 @@ fn entry_fold_with_new_count<'a, L: Ledger>(
     ensures dated { IfOk result IsDated }
     ensures end { IfOk result EndsAtDate }
     ensures too_large { IsErrOf result GuardFault.TooLarge →
-        TooLargeAt case.now.most_nodes case.now.policy (five (entry_tuple entry.now)) (tuples_of steps.now)
+        TooLargeAt case.now.max_nodes case.now.policy (five (entry_tuple entry.now)) (tuples_of steps.now)
         ⊎ IsOvercharged case.now.policy case.now.uncounted (tuples_of steps.now) entry.now (work_left budget.old) }
     ensures charged { OnOk result ((n : ℕ) × IsCharge case.now.policy case.now.uncounted (tuples_of steps.now) entry.now n
         × Takes (work_left budget.old) (work_left budget.new) n) }
     ensures left { TakesOfEntry (work_left budget.old) (work_left budget.new) case.now.policy case.now.uncounted (tuples_of steps.now) entry.now }
     ensures same_sizes { IsBudgetFor (tuples_of steps.now) budget.new }
-    ensures within_limit { IfOk result (λ fold. ¬ TooLargeAt case.now.most_nodes case.now.policy (five (entry_tuple entry.now)) (tuples_of steps.now)) }
+    ensures within_limit { IfOk result (λ fold. ¬ TooLargeAt case.now.max_nodes case.now.policy (five (entry_tuple entry.now)) (tuples_of steps.now)) }
 {
     entry_fold_counted(
         alloc,
@@ -204,7 +204,7 @@ fn entry_fold_with_new_count<'a, L: Ledger>(
 ///
 /// # Errors
 ///
-/// `TooLarge` if the product of the nodes of two tags that are to be intersected is over the case's `most_nodes`, or the work is more than
+/// `TooLarge` if the product of the nodes of two tags that are to be intersected is over the case's `max_nodes`, or the work is more than
 /// the budget has. `Memory` if memory ran out, or if a shared part has too many owners to count. What was taken from the budget before an
 /// error stays taken.
 pub fn entry_fold_counted<'a, L: Ledger>(
@@ -225,12 +225,12 @@ pub fn entry_fold_counted<'a, L: Ledger>(
     ensures dated { IfOk result IsDated }
     ensures end { IfOk result EndsAtDate }
     ensures too_large { IsErrOf result GuardFault.TooLarge →
-        TooLargeAt case.now.most_nodes case.now.policy (five (entry_tuple entry.now)) (tuples_of steps.now)
+        TooLargeAt case.now.max_nodes case.now.policy (five (entry_tuple entry.now)) (tuples_of steps.now)
         ⊎ IsOvercharged case.now.policy case.now.uncounted (tuples_of steps.now) entry.now (work_left budget.old) }
     ensures charged { OnOk result ((n : ℕ) × IsCharge case.now.policy case.now.uncounted (tuples_of steps.now) entry.now n
         × Takes (work_left budget.old) (work_left budget.new) n) }
     ensures same_sizes { IsBudgetFor (tuples_of steps.now) budget.new }
-    ensures within_limit { IfOk result (λ fold. ¬ TooLargeAt case.now.most_nodes case.now.policy (five (entry_tuple entry.now)) (tuples_of steps.now)) }
+    ensures within_limit { IfOk result (λ fold. ¬ TooLargeAt case.now.max_nodes case.now.policy (five (entry_tuple entry.now)) (tuples_of steps.now)) }
     ensures cost { AreTicksOfEntry (work_left budget.old) (work_left budget.new) ticks.old ticks.new
         case.now.policy case.now.uncounted (tuples_of steps.now) entry.now }
     ensures each { IfOk result (CountsSteps ticks.old ticks.new (length steps.now)) }

@@ -183,9 +183,9 @@ fn names_after<'a, L: Ledger>(
     ensures grows { ticks.old ≤ ticks.new }
 {
     let mut rest = names;
-    for place in 0..front.len() {
-        count_name(front.at(place), ticks);
-        if !has_first(&rest, front.at(place)) {
+    for index in 0..front.len() {
+        count_name(front.at(index), ticks);
+        if !has_first(&rest, front.at(index)) {
             drop(rest);
             return None;
         }
@@ -216,9 +216,9 @@ fn are_same_names<L: Ledger>(one: &Names, other: &Names, ticks: &mut Ticks<L>) -
     if one.len() != other.len() {
         return false;
     }
-    for place in 0..one.len() {
-        count_name(one.at(place), ticks);
-        if !one.at(place).same(other.at(place)) {
+    for index in 0..one.len() {
+        count_name(one.at(index), ticks);
+        if !one.at(index).same(other.at(index)) {
             return false;
         }
     }

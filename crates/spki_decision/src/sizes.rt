@@ -10,7 +10,7 @@ use spki_tag::Tag;
 
 /// The greatest number of nodes, or product of such numbers, that is counted. It is the greatest limit that `are_small` may be asked about,
 /// so a greater number is over every limit, and is kept as None.
-const MOST_NODES: usize = 1_000_000;
+const MAX_NODES: usize = 1_000_000;
 
 /// What is kept of the numbers of nodes of the certificates' tags, which are counted once for all entries.
 #[derive(Clone, Copy)]
@@ -94,7 +94,7 @@ fn product_of(steps: &[Step]) -> Option<usize>
     let mut product = 1;
     for step in steps {
         product *= nodes_in(step);
-        if product > MOST_NODES {
+        if product > MAX_NODES {
             return None;
         }
     }
@@ -117,7 +117,7 @@ fn plain_of(steps: &[Step]) -> Option<PlainNodes>
             all: plain.all + nodes,
             largest: plain.largest.max(nodes),
         };
-        if plain.all > MOST_NODES {
+        if plain.all > MAX_NODES {
             return None;
         }
     }

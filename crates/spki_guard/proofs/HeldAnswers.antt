@@ -10,7 +10,7 @@ use Rattle.spki_service.specs.GuardQuestions.{PreparedModel, Decides, DecidesMar
 use Rattle.spki_service.specs.declared.{owned_question.OwnedQuestion.{OwnedQuestion}, question.{Question.{Question}, AskFault.{AskFault}}}
 use Rattle.spki_service.specs.declared.failure.Failure.{Failure}
 use Rattle.spki_service.specs.{AccessLists.{GuardModel, AreEntries}, Questions.{certificates_in, HasFewStrings, IsRefused, IsAskedCase, asked_octets}}
-use Rattle.spki_service.proofs.{MarkedPlaces.{by_both}, AnswerLaws.{decided_marked_one, marked_one}, OneAsking.{case-one, unrefused-one, refusal-one}}
+use Rattle.spki_service.proofs.{MarkedIndices.{by_both}, AnswerLaws.{decided_marked_one, marked_one}, OneAsking.{case-one, unrefused-one, refusal-one}}
 use Rattle.spki_guard.specs.declared.{printed.Printed.{Printed}, answers.Verdict.{Verdict, TheVariants.{Done, No, Refused}}}
 use Rattle.spki_guard.specs.declared.queries.Query.{Query, TheVariants.{Decide, Explain, Reduce}}
 use Rattle.spki_guard.specs.HeldQuestions.{ReadsQuestion, AnswersAsked, IsUnreadQuestion, IsAnswerHeld, HasGrant, GrantsHeld, MayGrant, IsUnreadFor, WritesAsked, IsTooLargeFor, AnswersHeld, beside}
@@ -24,7 +24,7 @@ use Rattle.spki_service.specs.declared.question.AskFault.TheVariants as faults
 
 -- a question whose parts are within the limit, and are read
 pub reads : (held : GuardModel) (q : Question) (c : Case) → ¬ (held.octets < asked_octets q) → IsAskedCase q c → c.policy ≡ held.policy
-    → c.most_nodes ≡ held.nodes → c.most_work ≡ held.work → c.uncounted ≡ 0 → certificates_in c.items ≤ held.certificates → HasFewStrings held.words q
+    → c.max_nodes ≡ held.nodes → c.max_work ≡ held.work → c.uncounted ≡ 0 → certificates_in c.items ≤ held.certificates → HasFewStrings held.words q
     → ReadsQuestion held q c
 reads held q c within is policy nodes work counted few few_strings =
     record { short = omega (arith, within); is = is; policy = policy; nodes = nodes; work = work; counted = counted; few = few; few_strings = few_strings }
@@ -38,14 +38,14 @@ pub answered : (query : Query) (held : GuardModel) (q : Question) (marks : List 
     → a.texts ≡ held.texts → a.answer ≡ held.answer → a.marks ≡ marks
     → AnswersAsked query a x.verdict (written_by x) ⊎ RefusesForMemory x.verdict (written_by x)
     → IsAnswerHeld query held q marks x.verdict (written_by x)
-answered query held q marks a x read texts most same (inl h) =
-    let beside_is : a ≡ beside held a.case marks = λ i. record { texts = texts i; case = a.case; answer = most i; marks = same i } in
+answered query held q marks a x read texts limits same (inl h) =
+    let beside_is : a ≡ beside held a.case marks = λ i. record { texts = texts i; case = a.case; answer = limits i; marks = same i } in
     inl (record {
       case_read = a.case;
       read = read;
       answer = subst (λ (b : PreparedModel). AnswersAsked query b x.verdict (written_by x)) beside_is h;
     })
-answered query held q marks a x read texts most same (inr h) = inr (inr h)
+answered query held q marks a x read texts limits same (inr h) = inr (inr h)
 
 -- a question that is refused, and the line that says why
 pub unread : (held : GuardModel) (q : Question) (fault : AskFault) (verdict : Verdict) (output : List ℕ) → ¬ (held.octets < asked_octets q)

@@ -160,11 +160,11 @@ some_more [] fold = or_false (is_done fold)
 some_more (f ∷ folds) fold =
     ap (λ s. is_done f || s) (some_more folds fold) ∙ sym (or_behind (is_done f) (some_done folds) (is_done fold))
 
-module _ (most : ℕ) (folds : List EntryFold) (fold : EntryFold) (entry : ℕ) (numbered : entry ≡ suc (length folds))
-    (old new : FoldPrinter) (before : HasPrinted most folds old) (line : List ℕ) (is : IsFoldLine entry fold line)
+module _ (max_octets : ℕ) (folds : List EntryFold) (fold : EntryFold) (entry : ℕ) (numbered : entry ≡ suc (length folds))
+    (old new : FoldPrinter) (before : HasPrinted max_octets folds old) (line : List ℕ) (is : IsFoldLine entry fold line)
     (counted : new.count ≡ entry) (done : new.some_done ≡ (old.some_done || is_done fold)) where
-  with_line : (new.is_long ≡ false → (new.lines.items ≡ before.lines ++ line) × (length (before.lines ++ line) + new.room ≡ most))
-      → (new.is_long ≡ true → most < length (before.lines ++ line)) → HasPrinted most (folds ++ fold ∷ []) new
+  with_line : (new.is_long ≡ false → (new.lines.items ≡ before.lines ++ line) × (length (before.lines ++ line) + new.remaining ≡ max_octets))
+      → (new.is_long ≡ true → max_octets < length (before.lines ++ line)) → HasPrinted max_octets (folds ++ fold ∷ []) new
   with_line kept long =
       let here : entry ≡ 1 + length folds = omega (arith, numbered) in
       record {
@@ -176,24 +176,25 @@ module _ (most : ℕ) (folds : List EntryFold) (fold : EntryFold) (entry : ℕ) 
         counted = omega (arith, length-append folds (fold ∷ []), counted, numbered);
       }
 
-  pub printed : old.is_long ≡ false → new.is_long ≡ false → new.lines.items ≡ old.lines.items ++ line → length line + new.room ≡ old.room
-      → HasPrinted most (folds ++ fold ∷ []) new
-  printed was now text room =
+  pub printed : old.is_long ≡ false → new.is_long ≡ false → new.lines.items ≡ old.lines.items ++ line → length line + new.remaining ≡ old.remaining
+      → HasPrinted max_octets (folds ++ fold ∷ []) new
+  printed was now text remaining =
       let (same, sum) = before.kept was in
-      with_line (λ _. (text ∙ ap (λ s. s ++ line) same, omega (arith, length-append before.lines line, sum, room)))
+      with_line (λ _. (text ∙ ap (λ s. s ++ line) same, omega (arith, length-append before.lines line, sum, remaining)))
       (λ long. absurd (true≢false (sym long ∙ now)))
 
-  pub longer : old.is_long ≡ false → new.is_long ≡ true → old.room < length line → HasPrinted most (folds ++ fold ∷ []) new
+  pub longer : old.is_long ≡ false → new.is_long ≡ true → old.remaining < length line → HasPrinted max_octets (folds ++ fold ∷ []) new
   longer was now less =
       let (same, sum) = before.kept was in
       with_line (λ short. absurd (true≢false (sym now ∙ short))) (λ _. omega (arith, length-append before.lines line, sum, less))
 
-  pub still_long : old.is_long ≡ true → new.is_long ≡ true → HasPrinted most (folds ++ fold ∷ []) new
+  pub still_long : old.is_long ≡ true → new.is_long ≡ true → HasPrinted max_octets (folds ++ fold ∷ []) new
   still_long was now =
       with_line (λ short. absurd (true≢false (sym now ∙ short)))
       (λ _. let long = before.long was in omega (arith, length-append before.lines line, long))
 
-pub none_long : (most : ℕ) (folds : List EntryFold) (p : FoldPrinter) → HasPrinted most folds p → p.count ≡ 0 → most < length no_entries
-    → AreLongFolds folds most
-none_long most [] p h none less = (No, no_entries, (refl, refl), less)
-none_long most (fold ∷ folds) p h none less = let counted = h.counted in absurd (omega (arith, counted, none))
+pub none_long : (max_octets : ℕ) (folds : List EntryFold) (p : FoldPrinter) → HasPrinted max_octets folds p → p.count ≡ 0
+    → max_octets < length no_entries
+    → AreLongFolds folds max_octets
+none_long max_octets [] p h none less = (No, no_entries, (refl, refl), less)
+none_long max_octets (fold ∷ folds) p h none less = let counted = h.counted in absurd (omega (arith, counted, none))

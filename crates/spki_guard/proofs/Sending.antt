@@ -6,7 +6,7 @@ use Rattle.spki_guard.specs.declared.{answers.{Verdict.{Verdict, TheVariants.{Re
 use Rattle.spki_guard.specs.declared.{statuses.Status.{Status, TheVariants.{Answered, ReadFault, WriteFault}}, pages.PageSink.{PageSink}}
 use Rattle.spki_guard.specs.TextAnswers.{IsReply, IsAnswer, RefusesAnswer, IsAnswerApart, RefusesApart, RefusesAsLong, RefusesLong, RefusesForMemory, IsWritten, IsCutOff, IsFaulty}
 use Rattle.spki_guard.specs.Inner.Prints.{answer_verdict, Prints, PrintsAs, Sends}
-use Rattle.spki_guard.specs.Inner.Pages.{writer_of, page_of, most_of, has_failed, IsCutAfter, PageTakes}
+use Rattle.spki_guard.specs.Inner.Pages.{writer_of, page_of, max_asks_of, has_failed, IsCutAfter, PageTakes}
 use Rattle.spki_guard.specs.Lines.{refused_line}
 use Rattle.sexpr_core.specs.declared.fault.FormFault.TheVariants.{TooLong}
 use Rattle.metered_io.specs.{declared.meters.Metered.{Metered}, MeteredCalls.{inner_of, faults_of, counted, asks_of, Takes, TakesNone, SendsFront}}
@@ -148,19 +148,19 @@ module _ {W : Type 0} (contents : W → Option (List ℕ)) where
 -- ---- where writing page by page ends
 
 module _ {W : Type 0} (contents : W → Option (List ℕ)) where
-  faulty_at_flush : (mid new : Metered W) (most : ℕ) → (faults_of new ≡ counted (faults_of mid)) ⊎ (most ≤ asks_of new)
-      → (0 < faults_of new) ⊎ (most ≤ asks_of new)
-  faulty_at_flush mid new most (inl e) = inl (omega (arith, e))
-  faulty_at_flush mid new most (inr h) = inr h
+  faulty_at_flush : (mid new : Metered W) (max_asks : ℕ) → (faults_of new ≡ counted (faults_of mid)) ⊎ (max_asks ≤ asks_of new)
+      → (0 < faults_of new) ⊎ (max_asks ≤ asks_of new)
+  faulty_at_flush mid new max_asks (inl e) = inl (omega (arith, e))
+  faulty_at_flush mid new max_asks (inr h) = inr h
 
   -- all was written, and the flush failed
-  pub cut_at_flush : {A E : Type 0} (r : Result A E) (failed : Bool) (old mid new : Metered W) (octets : List ℕ) (most : ℕ)
+  pub cut_at_flush : {A E : Type 0} (r : Result A E) (failed : Bool) (old mid new : Metered W) (octets : List ℕ) (max_asks : ℕ)
       → failed ≡ false → Takes contents old mid octets → TakesNone contents mid new
-      → OnErr r ((faults_of new ≡ counted (faults_of mid)) ⊎ (most ≤ asks_of new))
-      → OnErr r (IsCutAfter contents failed old new octets most)
-  cut_at_flush (Ok a) failed old mid new octets most ok taken kept fault = tt
-  cut_at_flush (Err e) failed old mid new octets most ok taken kept fault =
-      inr (ok, [], SendsFront-all mid taken kept, faulty_at_flush mid new most fault)
+      → OnErr r ((faults_of new ≡ counted (faults_of mid)) ⊎ (max_asks ≤ asks_of new))
+      → OnErr r (IsCutAfter contents failed old new octets max_asks)
+  cut_at_flush (Ok a) failed old mid new octets max_asks ok taken kept fault = tt
+  cut_at_flush (Err e) failed old mid new octets max_asks ok taken kept fault =
+      inr (ok, [], SendsFront-all mid taken kept, faulty_at_flush mid new max_asks fault)
 
   -- a writer that failed reached its greatest number of calls, or failed a call
   faulty_end : (old new : Metered W) (octets : List ℕ) → asks_of old ≡ 0 → asks_of new ≤ max (asks_of old) (length octets + 2097152)
@@ -182,29 +182,29 @@ module _ {W : Type 0} (contents : W → Option (List ℕ)) where
       → IsCutOff contents old new octets
   cut_off old new octets rest unasked asks front faulty = search (rules, faulty_end)
 
-  module _ (s t : PageSink W) (old end : Metered W) (octets : List ℕ) (most : ℕ) (from : writer_of s ≡ old) (empty : page_of s ≡ [])
-      (ok : has_failed s ≡ false) (unasked : asks_of old ≡ 0) (most_is : most_of s ≡ most) (limit : most ≡ length octets + 2097152)
-      (taken : PageTakes contents s octets t) (asks : asks_of end ≤ max (asks_of (writer_of t)) (most_of t)) where
+  module _ (s t : PageSink W) (old end : Metered W) (octets : List ℕ) (max_asks : ℕ) (from : writer_of s ≡ old) (empty : page_of s ≡ [])
+      (ok : has_failed s ≡ false) (unasked : asks_of old ≡ 0) (max_asks_is : max_asks_of s ≡ max_asks) (limit : max_asks ≡ length octets + 2097152)
+      (taken : PageTakes contents s octets t) (asks : asks_of end ≤ max (asks_of (writer_of t)) (max_asks_of t)) where
     bounded : asks_of end ≤ max (asks_of old) (length octets + 2097152)
     bounded = search (rules)
 
     before_last : has_failed t ≡ true → end ≡ writer_of t
-        → IsCutAfter contents (has_failed s) (writer_of s) (writer_of t) (page_of s ++ octets) (most_of s) → IsCutOff contents old end octets
+        → IsCutAfter contents (has_failed s) (writer_of s) (writer_of t) (page_of s ++ octets) (max_asks_of s) → IsCutOff contents old end octets
     before_last failed same (inl h) = let clash : false ≡ true = sym ok ∙ h.0 in cc
     before_last failed same (inr (well, rest, front, faulty)) = search (rules, page_of, writer_of, faults_of, asks_of, cut_off, bounded, length)
 
-    pub front_written : IsCutAfter contents (has_failed t) (writer_of t) end (page_of t) (most_of t) → IsCutOff contents old end octets
+    pub front_written : IsCutAfter contents (has_failed t) (writer_of t) end (page_of t) (max_asks_of t) → IsCutOff contents old end octets
     front_written (inl (failed, same)) = before_last failed same (taken.cut failed)
     front_written (inr (well, rest, front, faulty)) =
         let (was, faults, sent, first, e) = taken.whole well in
         let joined : sent ++ page_of t ≡ octets = e ∙ ap (λ p. p ++ octets) empty in
         cut_off old end octets rest unasked bounded
         (last_front old (writer_of t) end sent (page_of t) octets rest (subst (λ w. Takes contents w (writer_of t) sent) from first) joined front)
-        (subst (λ n. (0 < faults_of end) ⊎ (n ≤ asks_of end)) (taken.same_most ∙ most_is ∙ limit) faulty)
+        (subst (λ n. (0 < faults_of end) ⊎ (n ≤ asks_of end)) (taken.same_max ∙ max_asks_is ∙ limit) faulty)
 
   -- `front_written` for the writer of the sink
-  pub cut_pages : (s t : PageSink W) (old end final : Metered W) (octets : List ℕ) (most : ℕ) → writer_of s ≡ old
-      → page_of s ≡ [] → has_failed s ≡ false → asks_of old ≡ 0 → most_of s ≡ most → most ≡ length octets + 2097152
-      → PageTakes contents s octets t → asks_of end ≤ max (asks_of (writer_of t)) (most_of t) → final ≡ end
-      → IsCutAfter contents (has_failed t) (writer_of t) end (page_of t) (most_of t) → IsCutOff contents old final octets
-  cut_pages s t old end final octets most from empty ok unasked most_is limit taken asks same h = search (rules, front_written)
+  pub cut_pages : (s t : PageSink W) (old end final : Metered W) (octets : List ℕ) (max_asks : ℕ) → writer_of s ≡ old
+      → page_of s ≡ [] → has_failed s ≡ false → asks_of old ≡ 0 → max_asks_of s ≡ max_asks → max_asks ≡ length octets + 2097152
+      → PageTakes contents s octets t → asks_of end ≤ max (asks_of (writer_of t)) (max_asks_of t) → final ≡ end
+      → IsCutAfter contents (has_failed t) (writer_of t) end (page_of t) (max_asks_of t) → IsCutOff contents old final octets
+  cut_pages s t old end final octets max_asks from empty ok unasked max_asks_is limit taken asks same h = search (rules, front_written)

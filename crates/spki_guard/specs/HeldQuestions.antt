@@ -21,8 +21,8 @@ pub record ReadsQuestion (held : GuardModel) (q : Question) (c : Case) : Type 0 
   pub short : asked_octets q ≤ held.octets
   pub is : IsAskedCase q c
   pub policy : c.policy ≡ held.policy
-  pub nodes : c.most_nodes ≡ held.nodes
-  pub work : c.most_work ≡ held.work
+  pub nodes : c.max_nodes ≡ held.nodes
+  pub work : c.max_work ≡ held.work
   pub counted : c.uncounted ≡ 0
   pub few : certificates_in c.items ≤ held.certificates
   pub few_strings : HasFewStrings held.words q

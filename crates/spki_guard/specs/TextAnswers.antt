@@ -304,7 +304,7 @@ IsReply command known left ended verdict output =
 
 -- Some call failed, or the number of calls reached this limit.
 abbrev pub IsFaulty : {T : Type 0} → Metered T → ℕ → Type 0
-IsFaulty meter most = (0 < faults_of meter) ⊎ (asks_of meter ≡ most)
+IsFaulty meter max_asks = (0 < faults_of meter) ⊎ (asks_of meter ≡ max_asks)
 
 -- the writer accepted the whole output and a flush
 pub record IsWritten {W : Type 0} (contents : W → Option (List ℕ)) (old new : Metered W) (output : List ℕ) : Type 0 where

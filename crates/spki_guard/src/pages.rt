@@ -1,7 +1,7 @@
 //! Writes octets to a writer, a page at a time.
 ghost use Rattle.std.specs.Prelude.{◌≡◌, ℕ, ◌≤◌, ◌⊎◌, List, [], ◌∷◌, ◌++◌, false, IsTrue, max, OnOk, OnErr};
 ghost use Rattle.metered_io.specs.MeteredCalls.{asks_of, faults_of, flushed_of, earlier_of, Takes};
-ghost use Rattle.spki_guard.specs.Inner.Pages.{lender_of, writer_of, page_of, most_of, has_failed, IsPassedOn, IsCutAfter, PageTakes, page_takes_nothing, page_takes_both, page_stays};
+ghost use Rattle.spki_guard.specs.Inner.Pages.{lender_of, writer_of, page_of, max_asks_of, has_failed, IsPassedOn, IsCutAfter, PageTakes, page_takes_nothing, page_takes_both, page_stays};
 
 use arrayvec::ArrayVec;
 use metered_io::{Metered, WriteFault, flush_writer, write_octets};
@@ -16,37 +16,37 @@ pub(crate) struct PageSink<'w, W> {
     /// Octets that were put and are not written yet.
     page: ArrayVec<u8, 4096>,
     /// The most calls of the writer. Its meter counts them.
-    most: u64,
+    max_asks: u64,
     /// Whether a write failed.
     failed: bool,
 }
 
 /// Writes octets, if `failed` is false. Returns whether a write failed before or now. Writing fails if the writer fails, or if octets
-/// are left and its count of calls, `asks`, is `most` or more: calls before this one count too.
+/// are left and its count of calls, `asks`, is `max_asks` or more: calls before this one count too.
 fn write_unless_failed<W: Write>(
     writer: &mut Metered<W>,
     failed: bool,
     octets: &[u8],
-    most: u64,
+    max_asks: u64,
 ) -> bool
-    ensures { IsPassedOn W.contents writer.old writer.new octets.now most failed result }
+    ensures { IsPassedOn W.contents writer.old writer.new octets.now max_asks failed result }
 {
     if failed {
         return true;
     }
-    write_octets(writer, octets, most).is_err()
+    write_octets(writer, octets, max_asks).is_err()
 }
 
-/// Appends octets to a page, if it has room for all of them. Returns whether it had. If not, the page does not change.
-fn append_if_room(page: &mut ArrayVec<u8, 4096>, octets: &[u8]) -> bool
+/// Appends octets to a page, if they fit in its capacity. Returns whether they did. If not, the page does not change.
+fn append_within_capacity(page: &mut ArrayVec<u8, 4096>, octets: &[u8]) -> bool
     ensures held { IsTrue result → page.new.items ≡ page.old.items ++ octets.now }
     ensures full { result ≡ false → page.new ≡ page.old }
 {
     page.try_extend_from_slice(octets).is_ok()
 }
 
-/// Appends an octet to a page, if it has room. Returns whether it had. If not, the page does not change.
-fn append_octet_if_room(page: &mut ArrayVec<u8, 4096>, octet: u8) -> bool
+/// Appends an octet to a page, if it fits in its capacity. Returns whether it did. If not, the page does not change.
+fn append_octet_within_capacity(page: &mut ArrayVec<u8, 4096>, octet: u8) -> bool
     ensures held { IsTrue result → page.new.items ≡ page.old.items ++ octet ∷ [] }
     ensures full { result ≡ false → page.new ≡ page.old }
 {
@@ -54,19 +54,19 @@ fn append_octet_if_room(page: &mut ArrayVec<u8, 4096>, octet: u8) -> bool
 }
 
 impl<'w, W: Write> PageSink<'w, W> {
-    /// A sink that writes to this writer. Writing fails if the writer fails, or if octets are left and its count of calls, `asks`, is `most`
+    /// A sink that writes to this writer. Writing fails if the writer fails, or if octets are left and its count of calls, `asks`, is `max_asks`
     /// or more: calls before the sink was made count too.
-    pub(crate) fn new(writer: &'w mut Metered<W>, most: u64) -> PageSink<'w, W>
+    pub(crate) fn new(writer: &'w mut Metered<W>, max_asks: u64) -> PageSink<'w, W>
         ensures lender { lender_of result ≡ writer.entry.ghost_name }
         ensures writer { writer_of result ≡ writer.old }
         ensures page { page_of result ≡ [] }
-        ensures most { most_of result ≡ most }
+        ensures max_asks { max_asks_of result ≡ max_asks }
         ensures failed { has_failed result ≡ false }
     {
         PageSink {
             writer,
             page: ArrayVec::new(),
-            most,
+            max_asks,
             failed: false,
         }
     }
@@ -80,7 +80,7 @@ impl<'w, W: Write> PageSink<'w, W> {
             self.writer,
             self.failed,
             self.page.as_slice(),
-            self.most,
+            self.max_asks,
         );
         self.page.clear();
     }
@@ -91,10 +91,10 @@ impl<'w, W: Write> PageSink<'w, W> {
         requires { page_of self.old ≡ [] }
         ensures { PageTakes W.contents self.old octets.now self.new }
     {
-        if append_if_room(&mut self.page, octets) {
+        if append_within_capacity(&mut self.page, octets) {
             return;
         }
-        self.failed = write_unless_failed(self.writer, self.failed, octets, self.most);
+        self.failed = write_unless_failed(self.writer, self.failed, octets, self.max_asks);
     }
 
     /// Writes the last page, and flushes the writer. If a write failed, there is no flush.
@@ -103,25 +103,25 @@ impl<'w, W: Write> PageSink<'w, W> {
     ///
     /// `WriteFault` if this or an earlier write failed, or the flush.
     pub(crate) fn end(self) -> Result<(), WriteFault>
-        ensures asks { asks_of self.exit.0.now ≤ max (asks_of (writer_of self.entry)) (most_of self.entry) }
+        ensures asks { asks_of self.exit.0.now ≤ max (asks_of (writer_of self.entry)) (max_asks_of self.entry) }
         ensures earlier { earlier_of self.exit.0.now ≡ earlier_of (writer_of self.entry) }
         ensures unflushed { OnErr result (flushed_of (writer_of self.entry) ≡ false → flushed_of self.exit.0.now ≡ false) }
         ensures ok { OnOk result ((has_failed self.entry ≡ false)
             × Takes W.contents (writer_of self.entry) self.exit.0.now (page_of self.entry)
             × (faults_of self.exit.0.now ≡ faults_of (writer_of self.entry)) × IsTrue (flushed_of self.exit.0.now)) }
         ensures err { OnErr result (IsCutAfter W.contents (has_failed self.entry) (writer_of self.entry) self.exit.0.now
-            (page_of self.entry) (most_of self.entry)) }
+            (page_of self.entry) (max_asks_of self.entry)) }
     {
         let PageSink {
             writer,
             page,
-            most,
+            max_asks,
             failed,
         } = self;
-        if write_unless_failed(writer, failed, page.as_slice(), most) {
+        if write_unless_failed(writer, failed, page.as_slice(), max_asks) {
             return Err(WriteFault);
         }
-        flush_writer(writer, most)
+        flush_writer(writer, max_asks)
     }
 }
 
@@ -133,7 +133,7 @@ impl<'w, W: Write> Sink for PageSink<'w, W> {
     /// Keeps the octets in the page. If they do not fit, writes the page first, and the octets too if they are longer
     /// than a page.
     fn put(&mut self, octets: &[u8]) {
-        if append_if_room(&mut self.page, octets) {
+        if append_within_capacity(&mut self.page, octets) {
             return;
         }
         self.write_page();
@@ -142,7 +142,7 @@ impl<'w, W: Write> Sink for PageSink<'w, W> {
 
     /// Keeps one octet in the page. If the page is full, writes it first.
     fn put_octet(&mut self, octet: u8) {
-        if append_octet_if_room(&mut self.page, octet) {
+        if append_octet_within_capacity(&mut self.page, octet) {
             return;
         }
         self.write_page();

@@ -59,19 +59,23 @@ impl Printed {
         })
     }
 
-    /// Prints an answer if it has at most `most` octets.
+    /// Prints an answer if it has at most `max_octets` octets.
     ///
     /// # Errors
     ///
     /// `TooLarge` if it has more. `Memory` if memory ran out.
-    pub(crate) fn within(alloc: Global, answer: &Answer, most: usize) -> Result<Printed, GuardFault>
+    pub(crate) fn within(
+        alloc: Global,
+        answer: &Answer,
+        max_octets: usize,
+    ) -> Result<Printed, GuardFault>
         ensures verdict { IfOk result (λ a. a.verdict ≡ answer_verdict answer.now) }
         ensures octets { IfOk result (λ a. Prints answer.now (written_by a)) }
-        ensures short { IfOk result (λ a. length (written_by a) ≤ most) }
-        ensures large { IsErrOf result GuardFault.TooLarge → (octets : List ℕ) × Prints answer.now octets × (most < length octets) }
+        ensures short { IfOk result (λ a. length (written_by a) ≤ max_octets) }
+        ensures large { IsErrOf result GuardFault.TooLarge → (octets : List ℕ) × Prints answer.now octets × (max_octets < length octets) }
     {
         let mut out = Vec::new(alloc);
-        let mut sink = CappedSink::new(&mut out, most);
+        let mut sink = CappedSink::new(&mut out, max_octets);
         print_answer(answer, &mut sink);
         sink.end()?;
         Ok(Printed {

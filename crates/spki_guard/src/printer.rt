@@ -17,9 +17,9 @@ use spki_tag::Tag;
 fn print_names<S: Sink>(names: &Names, sink: &mut S)
     ensures { S.takes sink.old (adv_all 1 (values (plains names.now))) sink.new }
 {
-    for place in 0..names.len() {
+    for index in 0..names.len() {
         sink.put_octet(b' ');
-        print_octets(names.at(place).as_slice(), sink);
+        print_octets(names.at(index).as_slice(), sink);
     }
 }
 

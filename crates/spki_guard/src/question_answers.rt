@@ -67,7 +67,7 @@ fn explained(alloc: Global, read: &PreparedQuestion) -> Result<Printed, GuardFau
 {
     let explanation = read.explain_by(alloc)?;
     let answer = answer_of_explanation(explanation);
-    Printed::within(alloc, &answer, read.most_answer())
+    Printed::within(alloc, &answer, read.max_answer())
 }
 
 /// The lines of the reduction of a question, if exactly its marked signatures are valid: one for each entry, or the one line of the first
@@ -76,13 +76,17 @@ fn reduced(alloc: Global, read: &PreparedQuestion) -> Result<Printed, GuardFault
     ensures written { IfOk result (λ a. WritesAsked Query.Reduce read.now a.verdict (written_by a)) }
     ensures large { IsErrOf result GuardFault.TooLarge → IsTooLargeFor Query.Reduce read.now }
 {
-    let most = read.most_answer();
-    let mut printer = FoldPrinter::new(alloc, most);
+    let max_octets = read.max_answer();
+    let mut printer = FoldPrinter::new(alloc, max_octets);
     match read.reduce_into(alloc, &mut printer)? {
         Some(Failure { item, stop }) => {
-            Printed::within(alloc, &Answer::Done(Output::Item { item, stop }), most)
+            Printed::within(
+                alloc,
+                &Answer::Done(Output::Item { item, stop }),
+                max_octets,
+            )
         }
-        None => printer.end(alloc, most),
+        None => printer.end(alloc, max_octets),
     }
 }
 

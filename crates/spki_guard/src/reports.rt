@@ -46,8 +46,8 @@ pub(crate) fn print_fold<S: Sink>(entry: usize, fold: &EntryFold, sink: &mut S)
 pub(crate) fn print_folds<S: Sink>(folds: &[EntryFold], sink: &mut S)
     ensures { (lines : List ℕ) × AreFoldLines 1 folds.now lines × S.takes sink.old lines sink.new }
 {
-    for (place, fold) in folds.iter().enumerate() {
-        print_fold(place + 1, fold, sink);
+    for (index, fold) in folds.iter().enumerate() {
+        print_fold(index + 1, fold, sink);
     }
 }
 
@@ -88,8 +88,8 @@ pub(crate) fn is_done(fold: &EntryFold) -> bool
 pub(crate) fn print_reasons<S: Sink>(reasons: &[Reason], sink: &mut S)
     ensures { S.takes sink.old (reason_lines 1 reasons.now) sink.new }
 {
-    for (place, reason) in reasons.iter().enumerate() {
-        print_reason(place + 1, *reason, sink);
+    for (index, reason) in reasons.iter().enumerate() {
+        print_reason(index + 1, *reason, sink);
     }
 }
 

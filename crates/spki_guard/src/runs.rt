@@ -13,7 +13,7 @@ use crate::refusals::Refusal;
 use crate::sources::source_of;
 use crate::statuses::Status;
 use metered_io::{Metered, ReadFault, read_whole};
-use sexpr_core::{FormFault, MOST_OCTETS};
+use sexpr_core::{FormFault, MAX_OCTETS};
 use spki_words::Command;
 use std::alloc::Global;
 use std::io::{Read, Write};
@@ -77,7 +77,7 @@ fn read_text<R: Read>(alloc: Global, reader: &mut Metered<R>) -> Option<Result<V
     ensures no_fault { OnSome result (faults_of reader.new ≡ faults_of reader.old) }
     ensures read { IfSome result (IsTextRead (R.remaining (inner_of reader.old)) (R.remaining (inner_of reader.new)) (ended_of reader.new)) }
 {
-    match read_whole(alloc, reader, MOST_OCTETS) {
+    match read_whole(alloc, reader, MAX_OCTETS) {
         Ok(text) => Some(Ok(text)),
         Err(ReadFault::Failed) => None,
         Err(ReadFault::TooLong) => Some(Err(Refusal::Form(FormFault::TooLong))),
@@ -131,24 +131,24 @@ fn send<W: Write>(writer: &mut Metered<W>, answer: &Answer) -> Status
         ⊎ RefusesForMemory verdict output) writer.old writer.new result }
 {
     match count_with(answer, WRITER_ASKS) {
-        Some(most) => send_pages(writer, answer, most),
+        Some(max_asks) => send_pages(writer, answer, max_asks),
         None => {
-            let most = WRITER_ASKS + REFUSED_MEMORY.len() as u64;
-            send_pages(writer, &Answer::Refused(Refusal::Memory), most)
+            let max_asks = WRITER_ASKS + REFUSED_MEMORY.len() as u64;
+            send_pages(writer, &Answer::Refused(Refusal::Memory), max_asks)
         }
     }
 }
 
 /// Prints an answer to a writer, page by page, and flushes it. Returns its status, or `WriteFault` if a write or the flush
-/// failed. Writing fails too when the writer's count of calls, `asks`, is `most`. The count must be 0, and `most` the number
+/// failed. Writing fails too when the writer's count of calls, `asks`, is `max_asks`. The count must be 0, and `max_asks` the number
 /// of the answer's octets plus 2,097,152.
-fn send_pages<W: Write>(writer: &mut Metered<W>, answer: &Answer, most: u64) -> Status
+fn send_pages<W: Write>(writer: &mut Metered<W>, answer: &Answer, max_asks: u64) -> Status
     requires unasked { asks_of writer.old ≡ 0 }
-    requires most { (octets : List ℕ) → Prints answer.now octets → most ≡ length octets + 2097152 }
+    requires max_asks { (octets : List ℕ) → Prints answer.now octets → max_asks ≡ length octets + 2097152 }
     ensures { Sends W.contents (λ verdict output. (verdict ≡ answer_verdict answer.now) × Prints answer.now output)
         writer.old writer.new result }
 {
-    let mut sink = PageSink::new(writer, most);
+    let mut sink = PageSink::new(writer, max_asks);
     print_answer(answer, &mut sink);
     match sink.end() {
         Ok(()) => Status::Answered(answer.verdict()),

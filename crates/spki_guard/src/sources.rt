@@ -6,7 +6,7 @@ ghost use Rattle.spki_guard.specs.declared.refusals.Refusal.{Refusal};
 
 use crate::queries::{Query, query_of};
 use crate::refusals::Refusal;
-use sexpr_core::{FormFault, MOST_OCTETS};
+use sexpr_core::{FormFault, MAX_OCTETS};
 use sexpr_text::{CanonicalText, Form, convert};
 use spki_case::{Case, CaseFault};
 use spki_words::Command;
@@ -51,7 +51,7 @@ pub(crate) fn short_text<'a>(alloc: Global, text: &'a [u8]) -> Result<CanonicalT
     ensures too_long { 1048576 < length text.entry.now → IsErrOf result (Refusal.Form FormFault.TooLong) }
 {
     let read = CanonicalText::read(alloc, text)?;
-    if text.len() > MOST_OCTETS {
+    if text.len() > MAX_OCTETS {
         return Err(Refusal::Form(FormFault::TooLong));
     }
     Ok(read)

@@ -22,8 +22,8 @@ pub more_at : (xs : List Tuple) (n : ℕ) (x : Tuple) → slice_get xs n ≡ Som
 more_at xs n x is =
     take-suc xs n x (slice_get_within xs n x is) ∙ ap (λ y. take n xs ++ y ∷ []) (get_or_from_slice_get xs n x x is)
 
-pub whole : (steps : List Step) (place : ℕ) → length steps ≤ place → take place (tuples_of steps) ≡ tuples_of steps
-whole steps place past = take_all place (tuples_of steps) (omega (arith, past, length-map steps step_tuple))
+pub whole : (steps : List Step) (index : ℕ) → length steps ≤ index → take index (tuples_of steps) ≡ tuples_of steps
+whole steps index past = take_all index (tuples_of steps) (omega (arith, past, length-map steps step_tuple))
 
 pub never : (b : Bool) → b ≡ false → b ≡ true → ⊥
 never b e f = both_ways b e f
@@ -59,8 +59,8 @@ module _ (policy : Policy) (first : Tuple) where
   -- ---- a chain up to its stop
 
   pub up_to : (others : List Tuple) (step : ℕ) (cause : Cause) (h : StopsAt policy first others step cause)
-      → take step others ≡ take h.place others ++ h.tuple ∷ []
-  up_to others step cause h = ap (λ n. take n others) h.numbered ∙ more_at others h.place h.tuple h.stands
+      → take step others ≡ take h.index others ++ h.tuple ∷ []
+  up_to others step cause h = ap (λ n. take n others) h.numbered ∙ more_at others h.index h.tuple h.stands
 
   -- ---- roots have what their leaves have: tags, or windows
 
@@ -72,9 +72,9 @@ module _ (policy : Policy) (first : Tuple) where
     parts_up_to : (others : List Tuple) (step : ℕ) (cause : Cause) (h : StopsAt policy first others step cause)
         → parts_of (five h.root) ++ parts_of h.tuple ≡ flat_map parts_of (first ∷ take step others)
     parts_up_to others step cause h =
-        ap (λ ps. ps ++ parts_of h.tuple) (so_far (take h.place others) (five h.root) h.before.derived)
-        ∙ ap (λ ps. flat_map parts_of (first ∷ take h.place others) ++ ps) (sym (append-nil (parts_of h.tuple)))
-        ∙ sym (flat_map-append parts_of (first ∷ take h.place others) (h.tuple ∷ []))
+        ap (λ ps. ps ++ parts_of h.tuple) (so_far (take h.index others) (five h.root) h.before.derived)
+        ∙ ap (λ ps. flat_map parts_of (first ∷ take h.index others) ++ ps) (sym (append-nil (parts_of h.tuple)))
+        ∙ sym (flat_map-append parts_of (first ∷ take h.index others) (h.tuple ∷ []))
         ∙ ap (λ ts. flat_map parts_of (first ∷ ts)) (sym (up_to others step cause h))
 
     -- if not all parts of the tuples up to a step pass a test, not all parts of all tuples do
@@ -107,7 +107,7 @@ module _ (policy : Policy) (first : Tuple) where
     pub underivable : (cause : Cause) → IsMisfit cause → StopsAt policy first others step cause → (after : List Tuple)
         → NoDerivation policy (first ∷ (take step others ++ after))
     underivable cause m h after tree root e d =
-        let before = take h.place others in
+        let before = take h.index others in
         let whole : take step others ++ after ≡ (before ++ h.tuple ∷ []) ++ after =
         ap (λ ts. ts ++ after) (up_to others step cause h) in
         let begun = front policy tree root first (before ++ h.tuple ∷ []) after d
@@ -153,66 +153,66 @@ product-some (t ∷ ts) = omega (arith, mul-le-mul_right (nodes_product ts) (nod
 larger : (n a d : ℕ) → 1 ≤ d → n < a → n < a * d
 larger n a d h k = let out : a * 1 ≤ a * d = mul-le-mul_left a h in omega arith
 
-too_many : (most : ℕ) (policy : Policy) (root : FiveTuple) (tuple : Tuple) → TooLargeFor most policy root tuple
-    → most < nodes_product (root.tags ++ tags_of tuple)
-too_many most policy root (five right) h = h.1
-too_many most policy root (four right) h = absurd h
+too_many : (max_product : ℕ) (policy : Policy) (root : FiveTuple) (tuple : Tuple) → TooLargeFor max_product policy root tuple
+    → max_product < nodes_product (root.tags ++ tags_of tuple)
+too_many max_product policy root (five right) h = h.1
+too_many max_product policy root (four right) h = absurd h
 
-module _ (most : ℕ) (policy : Policy) (first : Tuple) (others : List Tuple) where
+module _ (max_product : ℕ) (policy : Policy) (first : Tuple) (others : List Tuple) where
   -- what is too large at a step is too large for the chain
-  pub too_large : TooLargeAt most policy first others → most < nodes_product (all_tags (first ∷ others))
+  pub too_large : TooLargeAt max_product policy first others → max_product < nodes_product (all_tags (first ∷ others))
   too_large h =
-      let before = first ∷ take h.place others in
-      let after = drop (suc h.place) others in
-      let parted : others ≡ (take h.place others ++ h.tuple ∷ []) ++ after =
-      sym (take-append-drop (suc h.place) others)
-      ∙ ap (λ ts. ts ++ after) (more_at others h.place h.tuple h.stands) in
+      let before = first ∷ take h.index others in
+      let after = drop (suc h.index) others in
+      let parted : others ≡ (take h.index others ++ h.tuple ∷ []) ++ after =
+      sym (take-append-drop (suc h.index) others)
+      ∙ ap (λ ts. ts ++ after) (more_at others h.index h.tuple h.stands) in
       let all : all_tags (first ∷ others) ≡ (h.root.tags ++ tags_of h.tuple) ++ all_tags after =
       ap (λ ts. all_tags (first ∷ ts)) parted ∙ flat_map-append tags_of (before ++ h.tuple ∷ []) after
       ∙ ap (λ ts. ts ++ all_tags after) (flat_map-append tags_of before (h.tuple ∷ [])
       ∙ ap (λ ts. all_tags before ++ ts) (append-nil (tags_of h.tuple))
-      ∙ ap (λ ts. ts ++ tags_of h.tuple) (sym (tags_so_far policy first (take h.place others) h.root h.before.derived))) in
+      ∙ ap (λ ts. ts ++ tags_of h.tuple) (sym (tags_so_far policy first (take h.index others) h.root h.before.derived))) in
       let product = ap nodes_product all ∙ nodes_product-append (h.root.tags ++ tags_of h.tuple) (all_tags after) in
-      let P : ℕ → Type 0 = λ x. most < x in
-      subst P (sym product) (larger most (nodes_product (h.root.tags ++ tags_of h.tuple)) (nodes_product (all_tags after))
-      (product-some (all_tags after)) (too_many most policy h.root h.tuple h.too_large))
+      let P : ℕ → Type 0 = λ x. max_product < x in
+      subst P (sym product) (larger max_product (nodes_product (h.root.tags ++ tags_of h.tuple)) (nodes_product (all_tags after))
+      (product-some (all_tags after)) (too_many max_product policy h.root h.tuple h.too_large))
 
 -- ---- the code's steps
 
 module _
-    {policy : Policy} {first : Tuple} {step : Step} {f : Five} (steps : List Step) (place : ℕ)
-    (within : place < length steps) (read : step ≡ get_or steps place step)
-    (so_far : FoldsTo policy first (take place (tuples_of steps)) f) (has_met : HasMet first (take place (tuples_of steps)) f) where
-  pub step_stands : slice_get (tuples_of steps) place ≡ Some (step_tuple step)
-  step_stands = slice_get-map step_tuple steps place ∙ ap (option_map step_tuple)
-      (slice_get-get_or steps place step within ∙ ap Some (sym read))
+    {policy : Policy} {first : Tuple} {step : Step} {f : Five} (steps : List Step) (index : ℕ)
+    (within : index < length steps) (read : step ≡ get_or steps index step)
+    (so_far : FoldsTo policy first (take index (tuples_of steps)) f) (has_met : HasMet first (take index (tuples_of steps)) f) where
+  pub step_stands : slice_get (tuples_of steps) index ≡ Some (step_tuple step)
+  step_stands = slice_get-map step_tuple steps index ∙ ap (option_map step_tuple)
+      (slice_get-get_or steps index step within ∙ ap Some (sym read))
 
-  pub one_more : take (place + 1) (tuples_of steps) ≡ take place (tuples_of steps) ++ step_tuple step ∷ []
-  one_more = ap (λ n. take n (tuples_of steps)) (add-one place) ∙ more_at (tuples_of steps) place (step_tuple step) step_stands
+  pub one_more : take (index + 1) (tuples_of steps) ≡ take index (tuples_of steps) ++ step_tuple step ∷ []
+  one_more = ap (λ n. take n (tuples_of steps)) (add-one index) ∙ more_at (tuples_of steps) index (step_tuple step) step_stands
 
-  more_tags : all_tags (first ∷ take (place + 1) (tuples_of steps))
-      ≡ all_tags (first ∷ take place (tuples_of steps)) ++ tags_of (step_tuple step)
+  more_tags : all_tags (first ∷ take (index + 1) (tuples_of steps))
+      ≡ all_tags (first ∷ take index (tuples_of steps)) ++ tags_of (step_tuple step)
   more_tags =
-      let before = first ∷ take place (tuples_of steps) in
+      let before = first ∷ take index (tuples_of steps) in
       ap (λ ts. all_tags (first ∷ ts)) one_more
       ∙ flat_map-append tags_of before (step_tuple step ∷ [])
       ∙ ap (λ ts. all_tags before ++ ts) (append-nil (tags_of (step_tuple step)))
 
   -- the intersection of the tag so far and the tags of the step is that of all tags up to the step
   pub met_here :
-      met (f.tag ∷ tags_of (step_tuple step)) ≡ met (all_tags (first ∷ take (place + 1) (tuples_of steps)))
+      met (f.tag ∷ tags_of (step_tuple step)) ≡ met (all_tags (first ∷ take (index + 1) (tuples_of steps)))
   met_here =
-      met_more f.tag (all_tags (first ∷ take place (tuples_of steps))) (tags_of (step_tuple step)) has_met ∙ ap met (sym more_tags)
+      met_more f.tag (all_tags (first ∷ take index (tuples_of steps))) (tags_of (step_tuple step)) has_met ∙ ap met (sym more_tags)
 
-  pub through : GoesThrough policy first (take place (tuples_of steps)) so_far.root
+  pub through : GoesThrough policy first (take index (tuples_of steps)) so_far.root
   through = record { derived = so_far.derived; timely = so_far.timely; tagged = λ e. so_far.tagged (has_met ∙ e) }
 
   pub stops_here : (cause : Cause) → Stops policy (five (five_tuple f)) (step_tuple step) cause
       → (cause ≡ NoTag → met (f.tag ∷ tags_of (step_tuple step)) ≡ set none)
-      → StopsAt policy first (tuples_of steps) (place + 1) cause
+      → StopsAt policy first (tuples_of steps) (index + 1) cause
   stops_here cause h nothing = record {
-    place = place;
-    numbered = add-one place;
+    index = index;
+    numbered = add-one index;
     tuple = step_tuple step;
     stands = step_stands;
     root = so_far.root;
@@ -224,19 +224,19 @@ module _
   pub goes_on : (g : Five)
       → BecomesFive policy (five (five_tuple f)) (step_tuple step) g
       × (g.tag ≡ set none → (f.tag ≡ set none) × (tags_of (step_tuple step) ≡ []))
-      → FoldsTo policy first (take (place + 1) (tuples_of steps)) g
+      → FoldsTo policy first (take (index + 1) (tuples_of steps)) g
   goes_on g h = search (rules, one_more, grown)
 
-  pub too_large_here : (most : ℕ) → TooLargeFor most policy (five_tuple f) (step_tuple step)
-      → TooLargeAt most policy first (tuples_of steps)
-  too_large_here most h = record {
-    place = place;
+  pub too_large_here : (max_product : ℕ) → TooLargeFor max_product policy (five_tuple f) (step_tuple step)
+      → TooLargeAt max_product policy first (tuples_of steps)
+  too_large_here max_product h = record {
+    index = index;
     tuple = step_tuple step;
     stands = step_stands;
     root = so_far.root;
     before = through;
-    too_large = folding.too_large policy so_far.root f so_far.reduced most (step_tuple step) h;
+    too_large = folding.too_large policy so_far.root f so_far.reduced max_product (step_tuple step) h;
     met_too_large =
-        let P : Tag → Type 0 = λ t. most < nodes_product (t ∷ tags_of (step_tuple step)) in
-        subst P has_met (too_many most policy (five_tuple f) (step_tuple step) h);
+        let P : Tag → Type 0 = λ t. max_product < nodes_product (t ∷ tags_of (step_tuple step)) in
+        subst P has_met (too_many max_product policy (five_tuple f) (step_tuple step) h);
   }

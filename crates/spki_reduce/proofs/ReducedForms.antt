@@ -221,15 +221,15 @@ module _ (policy : Policy) (root : FiveTuple) (f : Five) (reduced : ReducesToFiv
   reaches_back (five right) h = search (rules, issues, issues_back, some_fewer)
   reaches_back (four right) h = search (rules, begins_back, some_fewer)
 
-  pub too_large : (most : ℕ) (right : Tuple) → TooLargeFor most policy (five_tuple f) right → TooLargeFor most policy root right
-  too_large most (five right) h =
-      (reaches (five right) h.0, more_nodes f.tag root.tags right.tags reduced.nodes most h.1)
-  too_large most (four right) h = h
+  pub too_large : (max_product : ℕ) (right : Tuple) → TooLargeFor max_product policy (five_tuple f) right → TooLargeFor max_product policy root right
+  too_large max_product (five right) h =
+      (reaches (five right) h.0, more_nodes f.tag root.tags right.tags reduced.nodes max_product h.1)
+  too_large max_product (four right) h = h
 
-  pub too_large_back : (most : ℕ) (right : Tuple) → TooLargeFor most policy root right
-      → most < nodes_product (f.tag ∷ tags_of right) → TooLargeFor most policy (five_tuple f) right
-  too_large_back most (five right) h large = (reaches_back (five right) h.0, large)
-  too_large_back most (four right) h large = h
+  pub too_large_back : (max_product : ℕ) (right : Tuple) → TooLargeFor max_product policy root right
+      → max_product < nodes_product (f.tag ∷ tags_of right) → TooLargeFor max_product policy (five_tuple f) right
+  too_large_back max_product (five right) h large = (reaches_back (five right) h.0, large)
+  too_large_back max_product (four right) h large = h
 
 -- the authorization that two tuples become has the issuer of the left one
 pub same_issuer : (policy : Policy) (f g : Five) (right : Tuple) → BecomesFive policy (five (five_tuple f)) right g

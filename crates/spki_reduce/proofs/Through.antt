@@ -31,7 +31,7 @@ HasTag (four t) = Unit {0}
 
 -- each authorization of a chain has a tag
 abbrev pub AreTagged : List Tuple → Type 0
-AreTagged tuples = (place : ℕ) (tuple : Tuple) → slice_get tuples place ≡ Some tuple → HasTag tuple
+AreTagged tuples = (index : ℕ) (tuple : Tuple) → slice_get tuples index ≡ Some tuple → HasTag tuple
 
 untagged : (policy : Policy) (root : FiveTuple) (tuple : Tuple) → HasTag tuple → Stops policy (five root) tuple NoTag
     → tags_of tuple ≢ []
@@ -57,9 +57,9 @@ module _ (policy : Policy) (first : Tuple) (others : List Tuple) (tagged : AreTa
   parted = sym (take-append-drop step (take n others)) ∙ ap (λ ts. ts ++ after) (take-take step n others below)
 
   ends : (cause : Cause) (h : StopsAt policy first others step cause)
-      → take n others ≡ take h.place others ++ (h.tuple ∷ after)
+      → take n others ≡ take h.index others ++ (h.tuple ∷ after)
   ends cause h = parted ∙ ap (λ ts. ts ++ after) (up_to policy first others step cause h)
-      ∙ append_assoc (take h.place others) (h.tuple ∷ []) after
+      ∙ append_assoc (take h.index others) (h.tuple ∷ []) after
 
   windows_are : root.windows ≡ all_windows (first ∷ take step others) ++ all_windows after
   windows_are = windows_so_far policy first (take n others) root through.derived
@@ -75,7 +75,7 @@ module _ (policy : Policy) (first : Tuple) (others : List Tuple) (tagged : AreTa
 
   timely : StopsAt policy first others step NoValidity → ⊥
   timely h =
-      let some = through.timely (λ e. let none_left = last_empty (take h.place others) (h.tuple ∷ after) (sym (ends NoValidity h) ∙ e) in cc) in
+      let some = through.timely (λ e. let none_left = last_empty (take h.index others) (h.tuple ∷ after) (sym (ends NoValidity h) ∙ e) in cc) in
       let nothing : NoMoment (all_windows (first ∷ take step others)) = excluded policy first others step NoValidity h in
       both_ways (within_each some.0 root.windows)
       (ap (within_each some.0) windows_are
@@ -88,12 +88,12 @@ module _ (policy : Policy) (first : Tuple) (others : List Tuple) (tagged : AreTa
       let nothing : met (all_tags (first ∷ take n others)) ≡ set none =
       ap met tags_are ∙ fold-append meet star (all_tags (first ∷ take step others)) (all_tags after)
       ∙ ap (λ t. fold meet t (all_tags after)) (h.nothing_met refl) ∙ nothing_met (all_tags after) in
-      let empty : all_tags (take h.place others ++ (h.tuple ∷ after)) ≡ [] =
+      let empty : all_tags (take h.index others ++ (h.tuple ∷ after)) ≡ [] =
       ap all_tags (sym (ends NoTag h)) ∙ through.tagged nothing in
       let rest : all_tags (h.tuple ∷ after) ≡ [] =
-      last_empty (all_tags (take h.place others)) (all_tags (h.tuple ∷ after))
-      (sym (flat_map-append tags_of (take h.place others) (h.tuple ∷ after)) ∙ empty) in
-      untagged policy h.root h.tuple (tagged h.place h.tuple h.stands) h.stopped
+      last_empty (all_tags (take h.index others)) (all_tags (h.tuple ∷ after))
+      (sym (flat_map-append tags_of (take h.index others) (h.tuple ∷ after)) ∙ empty) in
+      untagged policy h.root h.tuple (tagged h.index h.tuple h.stands) h.stopped
       (first_empty (tags_of h.tuple) (all_tags after) rest)
 
   pub unstopped : (cause : Cause) → StopsAt policy first others step cause → ⊥
@@ -104,10 +104,10 @@ module _ (policy : Policy) (first : Tuple) (others : List Tuple) (tagged : AreTa
 -- ---- chains that are not too large
 
 pub steps_tagged : (steps : List Step) → AreTagged (tuples_of steps)
-steps_tagged [] place tuple e = absurd cc
+steps_tagged [] index tuple e = absurd cc
 steps_tagged (Auth f ∷ steps) zero tuple e = search rules
 steps_tagged (Name f ∷ steps) zero tuple e = let same : four (four_tuple f) ≡ tuple = cc in subst HasTag same tt
-steps_tagged (step ∷ steps) (suc place) tuple e = steps_tagged steps place tuple e
+steps_tagged (step ∷ steps) (suc index) tuple e = steps_tagged steps index tuple e
 
 within_front : (xs : List Tuple) (k n : ℕ) (y : Tuple) → k < n → slice_get xs k ≡ Some y → slice_get (take n xs) k ≡ Some y
 within_front [] k n y below e = absurd cc
@@ -123,53 +123,53 @@ at_end [] x y (suc k) e = absurd cc
 at_end (z ∷ xs) x y zero e = inl (e, refl)
 at_end (z ∷ xs) x y (suc k) e = search (rules, at_end xs x y k e)
 
-module _ (most : ℕ) (policy : Policy) (first : Tuple) where
+module _ (max_product : ℕ) (policy : Policy) (first : Tuple) where
   -- a step that is too large in a chain is too large in another chain that begins with the same tuples
-  moved : (ones others : List Tuple) (h : TooLargeAt most policy first ones) → slice_get others h.place ≡ Some h.tuple
-      → take h.place ones ≡ take h.place others → TooLargeAt most policy first others
+  moved : (ones others : List Tuple) (h : TooLargeAt max_product policy first ones) → slice_get others h.index ≡ Some h.tuple
+      → take h.index ones ≡ take h.index others → TooLargeAt max_product policy first others
   moved ones others h stands same = search rules
 
   module _ (before : List Tuple) (tuple : Tuple) (f : Five) (folds : FoldsTo policy first before f)
       (has_met : HasMet first before f) where
-    large_last : (h : TooLargeAt most policy first (before ++ tuple ∷ [])) → h.tuple ≡ tuple
-        → take h.place (before ++ tuple ∷ []) ≡ before → TooLargeFor most policy (five_tuple f) tuple
+    large_last : (h : TooLargeAt max_product policy first (before ++ tuple ∷ [])) → h.tuple ≡ tuple
+        → take h.index (before ++ tuple ∷ []) ≡ before → TooLargeFor max_product policy (five_tuple f) tuple
     large_last h last front = search (rules, one_root, too_large_back)
 
-    pub small_more : (TooLargeAt most policy first before → ⊥) → (TooLargeFor most policy (five_tuple f) tuple → ⊥)
-        → TooLargeAt most policy first (before ++ tuple ∷ []) → ⊥
-    small_more so_far this h = elim (at_end before tuple h.tuple h.place h.stands) [
+    pub small_more : (TooLargeAt max_product policy first before → ⊥) → (TooLargeFor max_product policy (five_tuple f) tuple → ⊥)
+        → TooLargeAt max_product policy first (before ++ tuple ∷ []) → ⊥
+    small_more so_far this h = elim (at_end before tuple h.tuple h.index h.stands) [
       | inl p ↦ so_far (moved (before ++ tuple ∷ []) before h p.0 p.1)
       | inr p ↦ this (large_last h p.0 p.1)
     ]
 
   -- a chain that stops is not too large behind its stop
   module _ (others : List Tuple) (tagged : AreTagged others) (step : ℕ) (cause : Cause)
-      (stops : StopsAt policy first others step cause) (so_far : TooLargeAt most policy first (take step others) → ⊥) where
-    pub small : TooLargeAt most policy first others → ⊥
-    small h = elim (cases_lt h.place step) [
+      (stops : StopsAt policy first others step cause) (so_far : TooLargeAt max_product policy first (take step others) → ⊥) where
+    pub small : TooLargeAt max_product policy first others → ⊥
+    small h = elim (cases_lt h.index step) [
       | inl before ↦
-          so_far (moved others (take step others) h (within_front others h.place step h.tuple before h.stands)
-          (sym (take-take h.place step others (omega arith))))
-      | inr behind ↦ unstopped policy first others tagged h.place h.root h.before step behind cause stops
+          so_far (moved others (take step others) h (within_front others h.index step h.tuple before h.stands)
+          (sym (take-take h.index step others (omega arith))))
+      | inr behind ↦ unstopped policy first others tagged h.index h.root h.before step behind cause stops
     ]
 
 -- ---- the code's steps
 
 module _
-    {most : ℕ} {policy : Policy} {first : Tuple} {step : Step} {f : Five} (steps : List Step) (place : ℕ)
-    (within : place < length steps) (read : step ≡ get_or steps place step)
-    (folds : FoldsTo policy first (take place (tuples_of steps)) f) (has_met : HasMet first (take place (tuples_of steps)) f)
-    (so_far : TooLargeAt most policy first (take place (tuples_of steps)) → ⊥)
-    (this : TooLargeFor most policy (five_tuple f) (step_tuple step) → ⊥) where
-  pub small_here : TooLargeAt most policy first (take (place + 1) (tuples_of steps)) → ⊥
+    {max_product : ℕ} {policy : Policy} {first : Tuple} {step : Step} {f : Five} (steps : List Step) (index : ℕ)
+    (within : index < length steps) (read : step ≡ get_or steps index step)
+    (folds : FoldsTo policy first (take index (tuples_of steps)) f) (has_met : HasMet first (take index (tuples_of steps)) f)
+    (so_far : TooLargeAt max_product policy first (take index (tuples_of steps)) → ⊥)
+    (this : TooLargeFor max_product policy (five_tuple f) (step_tuple step) → ⊥) where
+  pub small_here : TooLargeAt max_product policy first (take (index + 1) (tuples_of steps)) → ⊥
   small_here h =
-      small_more most policy first (take place (tuples_of steps)) (step_tuple step) f folds has_met so_far this
-      (subst (λ ts. TooLargeAt most policy first ts) (one_more steps place within read folds has_met) h)
+      small_more max_product policy first (take index (tuples_of steps)) (step_tuple step) f folds has_met so_far this
+      (subst (λ ts. TooLargeAt max_product policy first ts) (one_more steps index within read folds has_met) h)
 
-  pub small_stopped : (cause : Cause) → StopsAt policy first (tuples_of steps) (place + 1) cause
-      → TooLargeAt most policy first (tuples_of steps) → ⊥
+  pub small_stopped : (cause : Cause) → StopsAt policy first (tuples_of steps) (index + 1) cause
+      → TooLargeAt max_product policy first (tuples_of steps) → ⊥
   small_stopped cause stops =
-      small most policy first (tuples_of steps) (steps_tagged steps) (place + 1) cause stops small_here
+      small max_product policy first (tuples_of steps) (steps_tagged steps) (index + 1) cause stops small_here
 
 -- ---- one stop
 
@@ -190,25 +190,25 @@ module _ (policy : Policy) (root : FiveTuple) where
 module _ (policy : Policy) (first : Tuple) (others : List Tuple) (tagged : AreTagged others) where
   -- of two stops the later one would come behind a step that has stopped the chain
   not_before : (s t : ℕ) (a b : Cause) → StopsAt policy first others s a → (k : StopsAt policy first others t b)
-      → s ≤ k.place → ⊥
-  not_before s t a b h k behind = unstopped policy first others tagged k.place k.root k.before s behind a h
+      → s ≤ k.index → ⊥
+  not_before s t a b h k behind = unstopped policy first others tagged k.index k.root k.before s behind a h
 
-  same_place : (s t : ℕ) (a b : Cause) (h : StopsAt policy first others s a) (k : StopsAt policy first others t b)
-      → (k.place < s) ⊎ (s ≤ k.place) → (h.place < t) ⊎ (t ≤ h.place) → h.place ≡ k.place
-  same_place s t a b h k (inl x) (inl y) = let i = h.numbered in let j = k.numbered in omega arith
-  same_place s t a b h k (inr x) y = absurd (not_before s t a b h k x)
-  same_place s t a b h k (inl x) (inr y) = absurd (not_before t s b a k h y)
+  same_index : (s t : ℕ) (a b : Cause) (h : StopsAt policy first others s a) (k : StopsAt policy first others t b)
+      → (k.index < s) ⊎ (s ≤ k.index) → (h.index < t) ⊎ (t ≤ h.index) → h.index ≡ k.index
+  same_index s t a b h k (inl x) (inl y) = let i = h.numbered in let j = k.numbered in omega arith
+  same_index s t a b h k (inr x) y = absurd (not_before s t a b h k x)
+  same_index s t a b h k (inl x) (inr y) = absurd (not_before t s b a k h y)
 
   pub one_stop : (s t : ℕ) (a b : Cause) → StopsAt policy first others s a → StopsAt policy first others t b
       → (s ≡ t) × (a ≡ b)
   one_stop s t a b h k =
-      let same = same_place s t a b h k (cases_lt k.place s) (cases_lt h.place t) in
-      let stands : slice_get others h.place ≡ Some k.tuple = ap (slice_get others) same ∙ k.stands in
+      let same = same_index s t a b h k (cases_lt k.index s) (cases_lt h.index t) in
+      let stands : slice_get others h.index ≡ Some k.tuple = ap (slice_get others) same ∙ k.stands in
       let both : Some h.tuple ≡ Some k.tuple = sym h.stands ∙ stands in
       let tuples : h.tuple ≡ k.tuple = cc in
-      let derived : Derives policy (from_left first (take h.place others)) (five k.root) =
+      let derived : Derives policy (from_left first (take h.index others)) (five k.root) =
       subst (λ n. Derives policy (from_left first (take n others)) (five k.root)) (sym same) k.before.derived in
-      let tree = from_left first (take h.place others) in
+      let tree = from_left first (take h.index others) in
       let fives : five k.root ≡ five h.root = one_root policy tree tree (five k.root) (five h.root) refl derived h.before.derived in
       let roots : k.root ≡ h.root = cc in
       let stopped : Stops policy (five h.root) h.tuple b =
@@ -221,7 +221,7 @@ module _ (policy : Policy) (first : Tuple) (others : List Tuple) (tagged : AreTa
   pub becomes_nothing : (s : ℕ) (a : Cause) → StopsAt policy first others s a → (f : Five) → FoldsTo policy first others f
       → HasMet first others f → ⊥
   becomes_nothing s a h f folds has_met =
-      let below = slice_get_within others h.place h.tuple h.stands in
+      let below = slice_get_within others h.index h.tuple h.stands in
       let all = take_all (length others) others (omega arith) in
       let through : GoesThrough policy first others folds.root =
       record { derived = folds.derived; timely = folds.timely; tagged = λ e. folds.tagged (has_met ∙ e) } in

@@ -17,29 +17,29 @@ cost_as one other left right tuple e h = λ i. step_cost (e i) (h i) tuple
 -- ---- the code's steps
 
 module _
-    {policy : Policy} {first : Tuple} {step : Step} {f : Five} (steps : List Step) (place : ℕ)
-    (within : place < length steps) (read : step ≡ get_or steps place step)
-    (folds : FoldsTo policy first (take place (tuples_of steps)) f) (has_met : HasMet first (take place (tuples_of steps)) f) where
-  stands : slice_get (tuples_of steps) place ≡ Some (step_tuple step)
-  stands = step_stands steps place within read folds has_met
+    {policy : Policy} {first : Tuple} {step : Step} {f : Five} (steps : List Step) (index : ℕ)
+    (within : index < length steps) (read : step ≡ get_or steps index step)
+    (folds : FoldsTo policy first (take index (tuples_of steps)) f) (has_met : HasMet first (take index (tuples_of steps)) f) where
+  stands : slice_get (tuples_of steps) index ≡ Some (step_tuple step)
+  stands = step_stands steps index within read folds has_met
 
-  back : ReachedAt policy first (tuples_of steps) place → Reaches policy (five_tuple f) (step_tuple step)
+  back : ReachedAt policy first (tuples_of steps) index → Reaches policy (five_tuple f) (step_tuple step)
   back at = search (rules, one_root, stands, reaches_back)
 
-  cost_here : (n : ℕ) → IsCostOf policy (five_tuple f) f.tag (step_tuple step) n → IsCost policy first (tuples_of steps) place n
+  cost_here : (n : ℕ) → IsCostOf policy (five_tuple f) f.tag (step_tuple step) n → IsCost policy first (tuples_of steps) index n
   cost_here n (inl h) =
-      let at : ReachedAt policy first (tuples_of steps) place = record {
+      let at : ReachedAt policy first (tuples_of steps) index = record {
         tuple = step_tuple step;
         stands = stands;
         root = folds.root;
-        before = through steps place within read folds has_met;
+        before = through steps index within read folds has_met;
         joins = reaches policy folds.root f folds.reduced (step_tuple step) h.0;
       } in
       inl (at, h.1 ∙ cost_as f.tag _ _ _ (step_tuple step) has_met folds.reduced.names)
   cost_here n (inr h) = inr (λ at. h.0 (back at), h.1)
 
-  pub work_here : (so_far n : ℕ) → IsWorkOf policy first (tuples_of steps) place so_far
-      → IsCostOf policy (five_tuple f) f.tag (step_tuple step) n → IsWorkOf policy first (tuples_of steps) (place + 1) (so_far + n)
+  pub work_here : (so_far n : ℕ) → IsWorkOf policy first (tuples_of steps) index so_far
+      → IsCostOf policy (five_tuple f) f.tag (step_tuple step) n → IsWorkOf policy first (tuples_of steps) (index + 1) (so_far + n)
   work_here so_far n before h = search (rules, cost_here, add-one)
 
 -- work that is taken in two parts is their sum, taken at once
@@ -59,42 +59,42 @@ over a None n m h k = absurd k
 -- ---- the ticks of the steps up to one that is looked at
 
 module _
-    {policy : Policy} {first : Tuple} {step : Step} {f : Five} (steps : List Step) (place : ℕ)
-    (within : place < length steps) (read : step ≡ get_or steps place step)
-    (folds : FoldsTo policy first (take place (tuples_of steps)) f) (has_met : HasMet first (take place (tuples_of steps)) f)
-    (left before after : Option ℕ) (old here now new so_far n : ℕ) (is : IsWorkOf policy first (tuples_of steps) place so_far)
+    {policy : Policy} {first : Tuple} {step : Step} {f : Five} (steps : List Step) (index : ℕ)
+    (within : index < length steps) (read : step ≡ get_or steps index step)
+    (folds : FoldsTo policy first (take index (tuples_of steps)) f) (has_met : HasMet first (take index (tuples_of steps)) f)
+    (left before after : Option ℕ) (old here now new so_far n : ℕ) (is : IsWorkOf policy first (tuples_of steps) index so_far)
     (taken_before : Takes left before so_far) (few : here ≤ old + 4 * so_far)
     (costs : IsCostOf policy (five_tuple f) f.tag (step_tuple step) n) (takes : Takes before after n) where
   pub ticks_here : now ≡ here + 1 → new ≤ now + 3 * n → AreTicksOfSteps left after old new policy first (tuples_of steps)
   ticks_here looked more = record {
-    steps = place + 1;
+    steps = index + 1;
     within = omega (arith, within, length-map steps step_tuple);
     work = so_far + n;
-    is = work_here steps place within read folds has_met so_far n is costs;
+    is = work_here steps index within read folds has_met so_far n is costs;
     taken = taken left before after so_far n taken_before takes;
     ticks = omega (arith, few, looked, more);
   }
 
 -- the work of all steps, once none is left
-pub whole_work : (policy : Policy) (first : Tuple) (steps : List Step) (place n : ℕ) → length steps ≤ place → place ≤ length steps
-    → IsWorkOf policy first (tuples_of steps) place n → IsWorkOf policy first (tuples_of steps) (length (tuples_of steps)) n
-whole_work policy first steps place n past within work =
-    let same : place ≡ length (tuples_of steps) = omega (arith, past, within, length-map steps step_tuple) in
+pub whole_work : (policy : Policy) (first : Tuple) (steps : List Step) (index n : ℕ) → length steps ≤ index → index ≤ length steps
+    → IsWorkOf policy first (tuples_of steps) index n → IsWorkOf policy first (tuples_of steps) (length (tuples_of steps)) n
+whole_work policy first steps index n past within work =
+    let same : index ≡ length (tuples_of steps) = omega (arith, past, within, length-map steps step_tuple) in
     subst (λ k. IsWorkOf policy first (tuples_of steps) k n) same work
 
 -- ---- behind a stop
 
 module _ (policy : Policy) (first : Tuple) (others : List Tuple) where
   module _ (tagged : AreTagged others) (step : ℕ) (cause : Cause) (stops : StopsAt policy first others step cause) where
-    unmet : (place : ℕ) → step ≤ place → ReachedAt policy first others place → ⊥
-    unmet place behind at = unstopped policy first others tagged place at.root at.before step behind cause stops
+    unmet : (index : ℕ) → step ≤ index → ReachedAt policy first others index → ⊥
+    unmet index behind at = unstopped policy first others tagged index at.root at.before step behind cause stops
 
     -- steps behind the stop add nothing
-    still : (n places : ℕ) → step ≤ places → IsWorkOf policy first others step n → IsWorkOf policy first others places n
+    still : (n later : ℕ) → step ≤ later → IsWorkOf policy first others step n → IsWorkOf policy first others later n
     still n zero behind h = let same : step ≡ 0 = omega arith in subst (λ k. IsWorkOf policy first others k n) same h
-    still n (suc places) behind h = elim (cases_lt places step) [
-      | inl at ↦ let same : step ≡ suc places = omega arith in subst (λ k. IsWorkOf policy first others k n) same h
-      | inr before ↦ (n, 0, still n places before h, inr (unmet places before, refl), omega arith)
+    still n (suc later) behind h = elim (cases_lt later step) [
+      | inl at ↦ let same : step ≡ suc later = omega arith in subst (λ k. IsWorkOf policy first others k n) same h
+      | inr before ↦ (n, 0, still n later before h, inr (unmet later before, refl), omega arith)
     ]
 
     pub work_stopped : (n : ℕ) → step ≤ length others → IsWorkOf policy first others step n
@@ -103,17 +103,17 @@ module _ (policy : Policy) (first : Tuple) (others : List Tuple) where
 
   -- ---- one work
 
-  one_cost : (place n m : ℕ) → IsCost policy first others place n → IsCost policy first others place m → n ≡ m
-  one_cost place n m (inl h) (inl k) =
+  one_cost : (index n m : ℕ) → IsCost policy first others index n → IsCost policy first others index m → n ≡ m
+  one_cost index n m (inl h) (inl k) =
       let same : h.0.tuple ≡ k.0.tuple = same_Some h.0.tuple k.0.tuple (sym h.0.stands ∙ k.0.stands) in
-      let tree = from_left first (take place others) in
+      let tree = from_left first (take index others) in
       let fives : five h.0.root ≡ five k.0.root =
       one_root policy tree tree (five h.0.root) (five k.0.root) refl h.0.before.derived k.0.before.derived in
       let roots : h.0.root ≡ k.0.root = cc in
-      h.1 ∙ (λ i. step_cost (met (all_tags (first ∷ take place others))) (roots i).names (same i)) ∙ sym k.1
-  one_cost place n m (inl h) (inr k) = absurd (k.0 h.0)
-  one_cost place n m (inr h) (inl k) = absurd (h.0 k.0)
-  one_cost place n m (inr h) (inr k) = h.1 ∙ sym k.1
+      h.1 ∙ (λ i. step_cost (met (all_tags (first ∷ take index others))) (roots i).names (same i)) ∙ sym k.1
+  one_cost index n m (inl h) (inr k) = absurd (k.0 h.0)
+  one_cost index n m (inr h) (inl k) = absurd (h.0 k.0)
+  one_cost index n m (inr h) (inr k) = h.1 ∙ sym k.1
 
   pub one_work : (steps n m : ℕ) → IsWorkOf policy first others steps n → IsWorkOf policy first others steps m → n ≡ m
   one_work zero n m h k = h ∙ sym k

@@ -12,7 +12,7 @@ or_empty : Option (List ℕ) → List ℕ
 or_empty (Some name) = name
 or_empty None = []
 
--- the names before a place, and the one there
+-- the names before an index, and the one there
 pub names_more : (names : List (List ℕ)) (k : ℕ) (name : List ℕ) → slice_get names k ≡ Some name
     → plains (take k names) ++ plain name ∷ [] ≡ plains (take (k + 1) names)
 unfolding or_empty

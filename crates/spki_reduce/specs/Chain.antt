@@ -48,26 +48,26 @@ pub record GoesThrough (policy : Policy) (first : Tuple) (others : List Tuple) (
 -- join the root of the tuples before it. The cause is NoTag only if the intersection of the tags up to the step, one after
 -- another, is (* set).
 pub record StopsAt (policy : Policy) (first : Tuple) (others : List Tuple) (step : ℕ) (cause : Cause) : Type 0 where
-  pub place : ℕ
-  pub numbered : step ≡ suc place
+  pub index : ℕ
+  pub numbered : step ≡ suc index
   pub tuple : Tuple
-  pub stands : slice_get others place ≡ Some tuple
+  pub stands : slice_get others index ≡ Some tuple
   pub root : FiveTuple
-  pub before : GoesThrough policy first (take place others) root
+  pub before : GoesThrough policy first (take index others) root
   pub stopped : Stops policy (five root) tuple cause
   pub nothing_met : cause ≡ NoTag → met (all_tags (first ∷ take step others)) ≡ set none
 
 -- A chain is too large at a step. No step before it stops the chain, and the step's tuple joins the root of the tuples
--- before it except for their tags. The product of the nodes of these tags is over `most`. The product of the nodes of the
--- step's tag and of the intersection of the tags before it is over `most` too.
-pub record TooLargeAt (most : ℕ) (policy : Policy) (first : Tuple) (others : List Tuple) : Type 0 where
-  pub place : ℕ
+-- before it except for their tags. The product of the nodes of these tags is over `max_product`. The product of the nodes of the
+-- step's tag and of the intersection of the tags before it is over `max_product` too.
+pub record TooLargeAt (max_product : ℕ) (policy : Policy) (first : Tuple) (others : List Tuple) : Type 0 where
+  pub index : ℕ
   pub tuple : Tuple
-  pub stands : slice_get others place ≡ Some tuple
+  pub stands : slice_get others index ≡ Some tuple
   pub root : FiveTuple
-  pub before : GoesThrough policy first (take place others) root
-  pub too_large : TooLargeFor most policy root tuple
-  pub met_too_large : most < nodes_product (met (all_tags (first ∷ take place others)) ∷ tags_of tuple)
+  pub before : GoesThrough policy first (take index others) root
+  pub too_large : TooLargeFor max_product policy root tuple
+  pub met_too_large : max_product < nodes_product (met (all_tags (first ∷ take index others)) ∷ tags_of tuple)
 
 -- no derivation has these leaves, in any bracketing
 abbrev pub NoDerivation : Policy → List Tuple → Type 0
@@ -120,27 +120,27 @@ abbrev pub Reaches : Policy → FiveTuple → Tuple → Type 0
 Reaches policy left (five right) = JoinButForTags policy left right
 Reaches policy left (four right) = ResolvesTimely policy left right
 
--- A chain reaches a place, counted from 0: no step before it stops the chain, and its tuple joins, whatever its tag is.
-pub record ReachedAt (policy : Policy) (first : Tuple) (others : List Tuple) (place : ℕ) : Type 0 where
+-- A chain reaches an index, counted from 0: no step before it stops the chain, and its tuple joins, whatever its tag is.
+pub record ReachedAt (policy : Policy) (first : Tuple) (others : List Tuple) (index : ℕ) : Type 0 where
   pub tuple : Tuple
-  pub stands : slice_get others place ≡ Some tuple
+  pub stands : slice_get others index ≡ Some tuple
   pub root : FiveTuple
-  pub before : GoesThrough policy first (take place others) root
+  pub before : GoesThrough policy first (take index others) root
   pub joins : Reaches policy root tuple
 
--- The cost of a place: that of joining its tuple with the intersection of the tags before it and the names of the root; nothing if it is
+-- The cost of an index: that of joining its tuple with the intersection of the tags before it and the names of the root; nothing if it is
 -- not reached.
 abbrev pub IsCost : Policy → Tuple → List Tuple → ℕ → ℕ → Type 0
-IsCost policy first others place n =
-    ((at : ReachedAt policy first others place)
-    × (n ≡ step_cost (met (all_tags (first ∷ take place others))) at.root.names at.tuple))
-    ⊎ ((ReachedAt policy first others place → ⊥) × (n ≡ 0))
+IsCost policy first others index n =
+    ((at : ReachedAt policy first others index)
+    × (n ≡ step_cost (met (all_tags (first ∷ take index others))) at.root.names at.tuple))
+    ⊎ ((ReachedAt policy first others index → ⊥) × (n ≡ 0))
 
 -- the work of a number of first steps of a chain, which is the fourth argument: the sum of their costs
 abbrev pub IsWorkOf : Policy → Tuple → List Tuple → ℕ → ℕ → Type 0
 IsWorkOf policy first others zero n = n ≡ 0
-IsWorkOf policy first others (suc place) n =
-    (before : ℕ) × (here : ℕ) × IsWorkOf policy first others place before × IsCost policy first others place here × (n ≡ before + here)
+IsWorkOf policy first others (suc index) n =
+    (before : ℕ) × (here : ℕ) × IsWorkOf policy first others index before × IsCost policy first others index here × (n ≡ before + here)
 
 -- the work of a whole chain
 abbrev pub IsWork : Policy → Tuple → List Tuple → ℕ → Type 0

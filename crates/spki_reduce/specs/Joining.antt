@@ -19,12 +19,12 @@ pub record JoinButForTags (policy : Policy) (left right : FiveTuple) : Type 0 wh
   pub allowed : left.delegation ≡ true
   pub timely : SomeMoment (left.windows ++ right.windows)
 
--- A tuple joins an authorization except for their tags, and the product of the nodes of the tags is over `most`. A
+-- A tuple joins an authorization except for their tags, and the product of the nodes of the tags is over `max_product`. A
 -- definition has no tags.
 abbrev pub TooLargeFor : ℕ → Policy → FiveTuple → Tuple → Type 0
-TooLargeFor most policy left (five right) =
-    JoinButForTags policy left right × (most < nodes_product (left.tags ++ right.tags))
-TooLargeFor most policy left (four right) = ⊥
+TooLargeFor max_product policy left (five right) =
+    JoinButForTags policy left right × (max_product < nodes_product (left.tags ++ right.tags))
+TooLargeFor max_product policy left (four right) = ⊥
 
 -- Why two authorizations do not join: the first cause, in their order, whose condition holds.
 abbrev pub Undelegated : Policy → FiveTuple → FiveTuple → Cause → Type 0

@@ -9,7 +9,7 @@ ghost use Rattle.spki_reduce.specs.Joining.{Stops, TooLargeFor, BecomesFive, Mat
 
 use crate::fault::ReduceFault;
 use crate::fold::{Fold, Joined};
-use crate::joins::MOST_NODES;
+use crate::joins::MAX_NODES;
 use crate::tuple::{Five, Step};
 use crate::work::{Work, intersection_cost, resolution_cost};
 use spki_cert::Policy;
@@ -61,28 +61,28 @@ pub fn fold_chain<'a>(
         1000000 < nodes_product (all_tags (five (five_tuple first.now) ∷ tuples_of steps.now)) }
 {
     let own = first.copy()?;
-    fold_owned(alloc, own, steps, policy, MOST_NODES, &mut Work::new(None))
+    fold_owned(alloc, own, steps, policy, MAX_NODES, &mut Work::new(None))
 }
 
 /// Joins `first` with the steps after it like `fold_chain`, but consumes `first`, so that it is not copied, and the caller sets
-/// the limits. `most`, which must be at most 1,000,000, is the greatest product of the numbers of nodes of two tags that are
+/// the limits. `max_product`, which must be at most 1,000,000, is the greatest product of the numbers of nodes of two tags that are
 /// intersected. `work` bounds the cost of all steps together: the cost of each step that joins, or that would join but for its
 /// tag, is subtracted from it. `Work` says what it is.
 ///
 /// # Errors
 ///
 /// `TooLarge` if a step joins except for its tag, and the product of the nodes of this tag and of the intersection of the
-/// tags before it is over `most`; or if a step costs more than `work` still has. `Memory` if memory ran out, or if a shared part has
+/// tags before it is over `max_product`; or if a step costs more than `work` still has. `Memory` if memory ran out, or if a shared part has
 /// too many owners to count. What was taken from `work` before an error stays taken.
 pub fn fold_owned<'a>(
     alloc: Global,
     first: Five<'a>,
     steps: &[Step<'a>],
     policy: Policy,
-    most: usize,
+    max_product: usize,
     work: &mut Work,
 ) -> Result<Fold<'a>, ReduceFault>
-    requires { most ≤ 1000000 }
+    requires { max_product ≤ 1000000 }
     ensures fold { IfOk result (λ fold. MatchFold fold
         (FoldsTo policy (five (five_tuple first.entry)) (tuples_of steps.now))
         (StopsAt policy (five (five_tuple first.entry)) (tuples_of steps.now))) }
@@ -100,16 +100,24 @@ pub fn fold_owned<'a>(
         (λ step cause. SupportsNothing policy (five (five_tuple first.entry) ∷ tuples_of steps.now))) }
     // When it is refused: the chain joins up to a step that is too large for the result so far, or its work is over the bound.
     ensures too_large { IsErrOf result ReduceFault.TooLarge →
-        TooLargeAt most policy (five (five_tuple first.entry)) (tuples_of steps.now)
+        TooLargeAt max_product policy (five (five_tuple first.entry)) (tuples_of steps.now)
         ⊎ IsOverworked (left_of work.old) policy (five (five_tuple first.entry)) (tuples_of steps.now) }
-    ensures within_limit { IfOk result (λ fold. ¬ TooLargeAt most policy (five (five_tuple first.entry)) (tuples_of steps.now)) }
+    ensures within_limit { IfOk result (λ fold. ¬ TooLargeAt max_product policy (five (five_tuple first.entry)) (tuples_of steps.now)) }
     ensures worked { OnOk result ((n : ℕ) × IsWork policy (five (five_tuple first.entry)) (tuples_of steps.now) n
         × Takes (left_of work.old) (left_of work.new) n) }
     // What was taken stays taken, also after an error: the work of some first steps.
     ensures left { TakesFirstSteps (left_of work.old) (left_of work.new) policy (five (five_tuple first.entry)) (tuples_of steps.now) }
 {
     // `Brand` and `Blank` are for a count of ticks, which exists only in contracts: see `spki_tag::Ticks`.
-    fold_with_new_count::<Brand>(alloc, first, steps, policy, most, work, Blank::new(1))
+    fold_with_new_count::<Brand>(
+        alloc,
+        first,
+        steps,
+        policy,
+        max_product,
+        work,
+        Blank::new(1),
+    )
 }
 
 /// Does what `fold_owned` does, with its arguments and its errors `TooLarge` and `Memory`: calls `fold_owned_counted` with a new count of ticks
@@ -120,11 +128,11 @@ fn fold_with_new_count<'a, L: Ledger>(
     first: Five<'a>,
     steps: &[Step<'a>],
     policy: Policy,
-    most: usize,
+    max_product: usize,
     work: &mut Work,
     blank: Blank,
 ) -> Result<Fold<'a>, ReduceFault>
-    requires most { most ≤ 1000000 }
+    requires max_product { max_product ≤ 1000000 }
     requires name { blank.name ≡ L.name }
     requires parts { blank.parts ≡ L.parts }
     requires some { 0 < blank.parts }
@@ -145,9 +153,9 @@ fn fold_with_new_count<'a, L: Ledger>(
         (λ step cause. SupportsNothing policy (five (five_tuple first.entry) ∷ tuples_of steps.now))) }
     // When it is refused: the chain joins up to a step that is too large for the result so far, or its work is over the bound.
     ensures too_large { IsErrOf result ReduceFault.TooLarge →
-        TooLargeAt most policy (five (five_tuple first.entry)) (tuples_of steps.now)
+        TooLargeAt max_product policy (five (five_tuple first.entry)) (tuples_of steps.now)
         ⊎ IsOverworked (left_of work.old) policy (five (five_tuple first.entry)) (tuples_of steps.now) }
-    ensures within_limit { IfOk result (λ fold. ¬ TooLargeAt most policy (five (five_tuple first.entry)) (tuples_of steps.now)) }
+    ensures within_limit { IfOk result (λ fold. ¬ TooLargeAt max_product policy (five (five_tuple first.entry)) (tuples_of steps.now)) }
     ensures worked { OnOk result ((n : ℕ) × IsWork policy (five (five_tuple first.entry)) (tuples_of steps.now) n
         × Takes (left_of work.old) (left_of work.new) n) }
     ensures left { TakesFirstSteps (left_of work.old) (left_of work.new) policy (five (five_tuple first.entry)) (tuples_of steps.now) }
@@ -157,32 +165,32 @@ fn fold_with_new_count<'a, L: Ledger>(
         first,
         steps,
         policy,
-        most,
+        max_product,
         work,
         &mut Ticks::<L>::new(blank),
     )
 }
 
 /// Joins the authorization `first` with the steps after it, as `fold_owned`. The result is the authorization that they become, or the step at
-/// which the chain stops and the cause. `policy` says which hashes may name keys. `most` must be at most 1,000,000. Operations are added to
+/// which the chain stops and the cause. `policy` says which hashes may name keys. `max_product` must be at most 1,000,000. Operations are added to
 /// `ticks`, a count that exists only in contracts. Each step that is looked at adds one tick. A step that joins, or that would join but for its
 /// tag, costs at least one unit of `Work`, and adds at most three more ticks for each unit. So there are at most four ticks for each unit that
 /// the steps cost, and one more for a step at which the chain ends early.
 ///
 /// # Errors
 ///
-/// `TooLarge` if the product of the nodes of two tags that are to be intersected is over `most`, or a step costs more than `work` still
+/// `TooLarge` if the product of the nodes of two tags that are to be intersected is over `max_product`, or a step costs more than `work` still
 /// has. `Memory` if memory ran out, or if a shared part has too many owners to count. What was taken from `work` before an error stays taken.
 pub fn fold_owned_counted<'a, L: Ledger>(
     alloc: Global,
     first: Five<'a>,
     steps: &[Step<'a>],
     policy: Policy,
-    most: usize,
+    max_product: usize,
     work: &mut Work,
     ticks: &mut Ticks<L>,
 ) -> Result<Fold<'a>, ReduceFault>
-    requires { most ≤ 1000000 }
+    requires { max_product ≤ 1000000 }
     ensures fold { IfOk result (λ fold. MatchFold fold
         (FoldsTo policy (five (five_tuple first.entry)) (tuples_of steps.now))
         (StopsAt policy (five (five_tuple first.entry)) (tuples_of steps.now))) }
@@ -200,9 +208,9 @@ pub fn fold_owned_counted<'a, L: Ledger>(
         (λ step cause. SupportsNothing policy (five (five_tuple first.entry) ∷ tuples_of steps.now))) }
     // When it is refused: the chain joins up to a step that is too large for the result so far, or its work is over the bound.
     ensures too_large { IsErrOf result ReduceFault.TooLarge →
-        TooLargeAt most policy (five (five_tuple first.entry)) (tuples_of steps.now)
+        TooLargeAt max_product policy (five (five_tuple first.entry)) (tuples_of steps.now)
         ⊎ IsOverworked (left_of work.old) policy (five (five_tuple first.entry)) (tuples_of steps.now) }
-    ensures within_limit { IfOk result (λ fold. ¬ TooLargeAt most policy (five (five_tuple first.entry)) (tuples_of steps.now)) }
+    ensures within_limit { IfOk result (λ fold. ¬ TooLargeAt max_product policy (five (five_tuple first.entry)) (tuples_of steps.now)) }
     ensures worked { OnOk result ((n : ℕ) × IsWork policy (five (five_tuple first.entry)) (tuples_of steps.now) n
         × Takes (left_of work.old) (left_of work.new) n) }
     ensures cost { AreTicksOfSteps (left_of work.old) (left_of work.new) ticks.old ticks.new policy (five (five_tuple first.entry)) (tuples_of steps.now) }
@@ -210,17 +218,17 @@ pub fn fold_owned_counted<'a, L: Ledger>(
         (λ step cause. ticks.old + step ≤ ticks.new)) }
 {
     let mut folded = first;
-    for (place, step) in steps.iter().enumerate() {
+    for (index, step) in steps.iter().enumerate() {
         ticks.tick();
         if let Err(fault) = work.take(folded.cost_with(step, policy)) {
             drop(folded);
             return Err(fault);
         }
-        match folded.joined(alloc, step, policy, most, ticks)? {
+        match folded.joined(alloc, step, policy, max_product, ticks)? {
             Joined::Done(next) => folded = next,
             Joined::Stopped(cause) => {
                 return Ok(Fold::Stopped {
-                    step: place + 1,
+                    step: index + 1,
                     cause,
                 });
             }
@@ -267,7 +275,7 @@ impl<'a> Five<'a> {
     }
 
     /// Joins this authorization with a step: an authorization by `into_then`, a definition by `into_resolve_counted`. If they do
-    /// not join, the result is `Stopped` with the cause. `policy` says which hashes may name keys. `most`, which must be at most
+    /// not join, the result is `Stopped` with the cause. `policy` says which hashes may name keys. `max_product`, which must be at most
     /// 1,000,000, is the greatest product of the numbers of nodes of two tags that are intersected. Err is `TooLarge` if the step is an
     /// authorization, the two would join but for their tags, and this product is greater; or `Memory`. `ticks` counts operations, and
     /// exists only in contracts: at most three ticks are added for each unit of work that the step costs (`cost_with`). If they do
@@ -278,10 +286,10 @@ impl<'a> Five<'a> {
         alloc: Global,
         step: &Step<'a>,
         policy: Policy,
-        most: usize,
+        max_product: usize,
         ticks: &mut Ticks<L>,
     ) -> Result<Joined<Five<'a>>, ReduceFault>
-        requires { most ≤ 1000000 }
+        requires { max_product ≤ 1000000 }
         ensures joined { IfOk result (λ joined. MatchJoined joined
             (λ f. BecomesFive policy (five (five_tuple self.entry)) (step_tuple step.now) f
             × (f.tag ≡ set none → (self.entry.tag ≡ set none) × (tags_of (step_tuple step.now) ≡ [])))
@@ -290,8 +298,8 @@ impl<'a> Five<'a> {
             (λ f. f.tag ≡ met (self.entry.tag ∷ tags_of (step_tuple step.now)))
             (λ cause. cause ≡ Cause.NoTag → met (self.entry.tag ∷ tags_of (step_tuple step.now)) ≡ set none)) }
         ensures too_large { IsErrOf result ReduceFault.TooLarge →
-            TooLargeFor most policy (five_tuple self.entry) (step_tuple step.now) }
-        ensures within_limit { IfOk result (λ joined. ¬ TooLargeFor most policy (five_tuple self.entry) (step_tuple step.now)) }
+            TooLargeFor max_product policy (five_tuple self.entry) (step_tuple step.now) }
+        ensures within_limit { IfOk result (λ joined. ¬ TooLargeFor max_product policy (five_tuple self.entry) (step_tuple step.now)) }
         ensures cost { (n : ℕ) → IsCostOf policy (five_tuple self.entry) self.entry.tag (step_tuple step.now) n
             → ticks.new ≤ ticks.old + 3 * n }
         ensures some { (n : ℕ) → IsCostOf policy (five_tuple self.entry) self.entry.tag (step_tuple step.now) n
@@ -299,7 +307,7 @@ impl<'a> Five<'a> {
         ensures grows { IfOk result (λ joined. ticks.old ≤ ticks.new) }
     {
         match step {
-            Step::Auth(next) => self.into_then(alloc, next, policy, most, ticks),
+            Step::Auth(next) => self.into_then(alloc, next, policy, max_product, ticks),
             Step::Name(definition) => self.into_resolve_counted(definition, policy, ticks),
         }
     }

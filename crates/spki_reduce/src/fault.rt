@@ -10,7 +10,7 @@ use thiserror::Error;
 /// Why tuples were not reduced, although they may join.
 #[derive(Clone, Copy, Debug, PartialEq, Eq, Error)]
 pub enum ReduceFault {
-    /// The product of the numbers of nodes (`Tag::nodes`) of two tags that are to be intersected is over the limit: 1,000,000, or the `most`
+    /// The product of the numbers of nodes (`Tag::nodes`) of two tags that are to be intersected is over the limit: 1,000,000, or the `max_product`
     /// that the caller passes. Or a step costs more than the caller's `Work` has left.
     #[error("the tags are too large")]
     TooLarge,

@@ -18,8 +18,8 @@ use std::marker::Brand;
 use std::sync::ledger::{Blank, Ledger};
 
 /// The greatest product of the numbers of nodes of two tags that `Five::then` and `fold_chain` intersect. It is also the greatest limit,
-/// `most`, that other functions may be passed.
-pub(crate) const MOST_NODES: usize = 1_000_000;
+/// `max_product`, that other functions may be passed.
+pub(crate) const MAX_NODES: usize = 1_000_000;
 
 impl<'a> Five<'a> {
     /// Joins this authorization with the next one (RFC 2693, section 6.3). The result is an authorization from this one's
@@ -54,15 +54,16 @@ impl<'a> Five<'a> {
         match self.joined_window(next, policy) {
             Err(cause) => Ok(Joined::Stopped(cause)),
             Ok(window) => {
-                let tag = self.tag.meet_within(alloc, &next.tag, MOST_NODES)?;
+                let tag = self.tag.meet_within(alloc, &next.tag, MAX_NODES)?;
                 Ok(narrowed(self.issuer.share(), tag, next, window)?)
             }
         }
     }
 
     /// Joins this authorization with the next one like `then`, with three differences. It consumes `self`, which a fold does not need again.
-    /// The greatest product of the numbers of nodes of both tags is `most`, which must be at most 1,000,000. Operations are added to `ticks`, a
-    /// count that exists only in contracts. Err is `TooLarge` if they join except for their tags, and the product is over `most`; or `Memory`.
+    /// The greatest product of the numbers of nodes of both tags is `max_product`, which must be at most 1,000,000. Operations are added to `ticks`,
+    /// a count that exists only in contracts. Err is `TooLarge` if they join except for their tags, and the product is over `max_product`; or
+    /// `Memory`.
     ///
     /// A tick is one of `Tag::meet_counted` (a pair of tags that is looked at, a member that is copied, an octet of a string), or a name of
     /// the next subject. There are at most three for each unit of work that joining `next` costs (`Five::cost_with`), so none if they do
@@ -72,10 +73,10 @@ impl<'a> Five<'a> {
         alloc: Global,
         next: &Five<'a>,
         policy: Policy,
-        most: usize,
+        max_product: usize,
         ticks: &mut Ticks<L>,
     ) -> Result<Joined<Five<'a>>, ReduceFault>
-        requires { most ≤ 1000000 }
+        requires { max_product ≤ 1000000 }
         ensures joined { IfOk result (λ joined. MatchJoined joined
             (λ f. BecomesFive policy (five (five_tuple self.entry)) (five (five_tuple next.now)) f × (f.tag ≢ set none))
             (λ cause. Stops policy (five (five_tuple self.entry)) (five (five_tuple next.now)) cause)) }
@@ -84,7 +85,7 @@ impl<'a> Five<'a> {
             (λ cause. cause ≡ Cause.NoTag → meet self.entry.tag next.now.tag ≡ set none)) }
         ensures too_large { IsErrOf result ReduceFault.TooLarge ↔
             (JoinButForTags policy (five_tuple self.entry) (five_tuple next.now)
-            × (most < nodes self.entry.tag * nodes next.now.tag)) }
+            × (max_product < nodes self.entry.tag * nodes next.now.tag)) }
         ensures cost { (n : ℕ) → IsCostOf policy (five_tuple self.entry) self.entry.tag (five (five_tuple next.now)) n
             → ticks.new ≤ ticks.old + 3 * n }
         ensures some { (n : ℕ) → IsCostOf policy (five_tuple self.entry) self.entry.tag (five (five_tuple next.now)) n
@@ -100,7 +101,7 @@ impl<'a> Five<'a> {
                 return Ok(Joined::Stopped(cause));
             }
         };
-        let met = match self.tag.meet_counted(alloc, &next.tag, most, ticks) {
+        let met = match self.tag.meet_counted(alloc, &next.tag, max_product, ticks) {
             Ok(met) => met,
             Err(fault) => {
                 drop(self);

@@ -119,8 +119,8 @@ fn write_principal(alloc: Global, principal: &Principal) -> Result<Sexp, AllocEr
 fn push_names(alloc: Global, members: &mut Vec<Sexp>, names: &Names) -> Result<(), AllocError>
     ensures { OnOk result (map sexp_value members.new.items ≡ map sexp_value members.old.items ++ plains names.now) }
 {
-    for place in 0..names.len() {
-        members.push(Sexp::plain(alloc, names.at(place).as_slice())?)?;
+    for index in 0..names.len() {
+        members.push(Sexp::plain(alloc, names.at(index).as_slice())?)?;
     }
     Ok(())
 }

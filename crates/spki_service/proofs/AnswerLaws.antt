@@ -17,7 +17,7 @@ use Rattle.spki_service.specs.GuardQuestions.{PreparedModel, asked_at, Decides, 
 use Rattle.spki_service.specs.{AccessLists.{AreEntries, DecidesPartly, IsEntryText}, Questions.{IsDateAt, last_second}}
 use Rattle.spki_service.specs.declared.failure.Failure.{Failure}
 use Rattle.spki_service.proofs.{SecondOrder.{upto_seconds, until_second}, SelectedEntries.{entry_there, as_many}}
-use Rattle.spki_service.proofs.MarkedPlaces.{all_at, refused_place, by_both}
+use Rattle.spki_service.proofs.MarkedIndices.{all_at, refused_index, by_both}
 use Rattle.spki_case.specs.Case.{Verified, Case}
 use Rattle.spki_cert.specs.{declared.{entry.Entry.{Entry}, window.Window.{Window}}, Time.{upto, is_until, IsLimit}}
 use Rattle.spki_reduce.specs.{Reduction.{Tuple, five, entry_tuple}, Chain.{TooLargeAt, Takes, all_windows}}
@@ -108,9 +108,9 @@ module _ (a : PreparedModel) (verified : Verified) where
     pub folds_failed : AreReduced a verified (Some (record { item = item; stop = stop })) []
     folds_failed = (refl, failed)
 
-  module _ (place : ℕ) (r : RefusedAt verified (asked a.case) place) where
+  module _ (index : ℕ) (r : RefusedAt verified (asked a.case) index) where
     fails : (item : ℕ) → item ≡ r.refused.item → FailsAt a.case.policy verified a.case.items item NotAccepted
-    fails item same = rw same (not_accepted a.case.policy verified a.case.items (asked a.case) place refl r)
+    fails item same = rw same (not_accepted a.case.policy verified a.case.items (asked a.case) index refl r)
 
     pub decided_none : Decides verified a No
     decided_none = decided_failed r.refused.item NotAccepted (fails r.refused.item refl)
@@ -126,12 +126,12 @@ module _ (a : PreparedModel) (verified : Verified) where
 module _ (verified : Verified) (a : PreparedModel) (tell : MarksTell verified (asked a.case) a.marks) where
   pub decided_told : (d : Decision) → DecidesMarked a d → Decides verified a d
   decided_told d (inl (all, h)) =
-      let accepted = all_at (IsAccepted verified) (asked a.case) (λ place s stands. (tell place s stands).0 (all place s stands)) in
+      let accepted = all_at (IsAccepted verified) (asked a.case) (λ index s stands. (tell index s stands).0 (all index s stands)) in
       λ es are. decision_by (with_entries a.case es) every verified (agrees verified (asked a.case) accepted) d (h es are)
   decided_told d (inr (one, u, none)) =
-      let refused = refused_place verified (asked a.case) u.place one u.stands (λ other s below there. (tell other s there).0 (u.before other below))
-      (λ accepted. u.not_marked ((tell u.place one u.stands).1 accepted)) in
-      subst (Decides verified a) (sym none) (decided_none a verified u.place refused)
+      let refused = refused_index verified (asked a.case) u.index one u.stands (λ other s below there. (tell other s there).0 (u.before other below))
+      (λ accepted. u.not_marked ((tell u.index one u.stands).1 accepted)) in
+      subst (Decides verified a) (sym none) (decided_none a verified u.index refused)
 
 -- ---- what entries become, by marks
 
@@ -144,13 +144,13 @@ folded_marked a all takes (Err fault) h = tt
 -- ---- the first refused signature of a question, by the fields that it has
 
 -- the first refused one among equal lists of signatures is the same, and so is its item
-pub refused_there : (V : List Signed → Verified) (kept items : List examined.Signed) (all : List Signed) (place : ℕ) (one : examined.Signed)
-    → RefusedAt (V (map signed_of items)) (map signed_of items) place → items ≡ kept → map signed_of kept ≡ all → one ≡ get_or kept place one
-    → (r : RefusedAt (V all) all place) × (one.item ≡ r.refused.item)
-refused_there V kept items all place one r same are here =
+pub refused_there : (V : List Signed → Verified) (kept items : List examined.Signed) (all : List Signed) (index : ℕ) (one : examined.Signed)
+    → RefusedAt (V (map signed_of items)) (map signed_of items) index → items ≡ kept → map signed_of kept ≡ all → one ≡ get_or kept index one
+    → (r : RefusedAt (V all) all index) × (one.item ≡ r.refused.item)
+refused_there V kept items all index one r same are here =
     let item_is : one.item ≡ r.refused.item =
-    ap (λ s. s.item) here ∙ ap (λ xs. (get_or xs place one).item) (sym same) ∙ refused_item (V (map signed_of items)) items place r one in
-    subst (λ (xs : List Signed). (r : RefusedAt (V xs) xs place) × (one.item ≡ r.refused.item)) (ap (map signed_of) same ∙ are) (r, item_is)
+    ap (λ s. s.item) here ∙ ap (λ xs. (get_or xs index one).item) (sym same) ∙ refused_item (V (map signed_of items)) items index r one in
+    subst (λ (xs : List Signed). (r : RefusedAt (V xs) xs index) × (one.item ≡ r.refused.item)) (ap (map signed_of) same ∙ are) (r, item_is)
 
 -- ---- the decision by the entries that the index finds, if every signature is accepted
 
@@ -179,31 +179,31 @@ module _ (a : PreparedModel) (tuples : List Tuple) (shown : AreShown a.case.poli
 -- ---- what the entries of texts become, one text after another
 
 module _ (texts : List (List ℕ)) (c : Case) (tuples : List Tuple) where
-  -- the first `place` texts are read, `folds` is what their entries become, and `left` is the work that may still be done
+  -- the first `index` texts are read, `folds` is what their entries become, and `left` is the work that may still be done
   abbrev pub TextsTo : ℕ → Option ℕ → List EntryFold → Type 0
-  TextsTo place left folds = (es : List Entry) → AreEntries texts es → FoldedTo (with_entries c es) tuples place left folds
+  TextsTo index left folds = (es : List Entry) → AreEntries texts es → FoldedTo (with_entries c es) tuples index left folds
 
   -- one text more
-  module _ (place : ℕ) (below : place < length texts) (e : Entry)
-      (found : (f : Entry) → IsEntryText (get_or texts place []) f → e ≡ f)
-      (old : Option ℕ) (folds : List EntryFold) (before : TextsTo place old folds) where
-    stands : (es : List Entry) → AreEntries texts es → slice_get es place ≡ Some e
-    stands es are = let there = entry_there texts es place are below in there.1 ∙ ap Some (sym (found there.0 there.2))
+  module _ (index : ℕ) (below : index < length texts) (e : Entry)
+      (found : (f : Entry) → IsEntryText (get_or texts index []) f → e ≡ f)
+      (old : Option ℕ) (folds : List EntryFold) (before : TextsTo index old folds) where
+    stands : (es : List Entry) → AreEntries texts es → slice_get es index ≡ Some e
+    stands es are = let there = entry_there texts es index are below in there.1 ∙ ap Some (sym (found there.0 there.2))
 
     pub too_large : (es : List Entry) → AreEntries texts es
-        → TooLargeAt c.most_nodes c.policy (five (entry_tuple e)) tuples ⊎ IsOvercharged c.policy c.uncounted tuples e old
+        → TooLargeAt c.max_nodes c.policy (five (entry_tuple e)) tuples ⊎ IsOvercharged c.policy c.uncounted tuples e old
         → HasLargeTags (with_entries c es) tuples ⊎ HasMuchWork (with_entries c es) tuples
-    too_large es are h = too_large_here (with_entries c es) tuples place e (stands es are) old folds (before es are) h
+    too_large es are h = too_large_here (with_entries c es) tuples index e (stands es are) old folds (before es are) h
 
     pub one_more : (fold : EntryFold) (new : Option ℕ) (n : ℕ) → ((es : List Entry) → IsEntryFold (with_entries c es) tuples e fold)
-        → ¬ TooLargeAt c.most_nodes c.policy (five (entry_tuple e)) tuples → IsCharge c.policy c.uncounted tuples e n → Takes old new n
-        → TextsTo (place + 1) new (folds ++ fold ∷ [])
+        → ¬ TooLargeAt c.max_nodes c.policy (five (entry_tuple e)) tuples → IsCharge c.policy c.uncounted tuples e n → Takes old new n
+        → TextsTo (index + 1) new (folds ++ fold ∷ [])
     one_more fold new n exact small charge takes = λ es are.
-        one_folded (with_entries c es) tuples place e (stands es are) old folds (before es are) fold new n (exact es) small charge takes
+        one_folded (with_entries c es) tuples index e (stands es are) old folds (before es are) fold new n (exact es) small charge takes
 
-  pub all_texts : (place : ℕ) (left : Option ℕ) (folds : List EntryFold) → place ≡ length texts → TextsTo place left folds
+  pub all_texts : (index : ℕ) (left : Option ℕ) (folds : List EntryFold) → index ≡ length texts → TextsTo index left folds
       → (es : List Entry) → AreEntries texts es → AreFoldsOf (with_entries c es) tuples folds
-  all_texts place left folds whole h es are = all_folded (with_entries c es) tuples place left folds (whole ∙ as_many texts es are) (h es are)
+  all_texts index left folds whole h es are = all_folded (with_entries c es) tuples index left folds (whole ∙ as_many texts es are) (h es are)
 
 -- ---- a grant is a yes
 
@@ -217,7 +217,7 @@ module _ (a : PreparedModel) (es : List Entry) (moment : List ℕ) (grant : Gran
   held_marked_by : DecidesMarked a (Yes grant.entry) → OfCase a (λ c. HoldsUntil c (Some grant)) → upto a.case.moment moment ≡ true
       → is_until grant.until moment ≡ true → DecidesMarked (asked_at a moment) d → (m : ℕ) × (d ≡ Yes m) × (m ≤ grant.entry)
   held_marked_by (inr (one, u, none)) holds later before decides = absurd (let clash : Yes grant.entry ≡ No = none in cc)
-  held_marked_by (inl (all, h)) holds later before (inr (one, u, none)) = absurd (u.not_marked (all u.place one u.stands))
+  held_marked_by (inl (all, h)) holds later before (inr (one, u, none)) = absurd (u.not_marked (all u.index one u.stands))
   held_marked_by (inl (all, h)) holds later before (inl (also, k)) =
       yes_till (with_entries a.case es) every moment grant (holds es are) later before (h es are) d (k es are)
 

@@ -101,46 +101,46 @@ pub none_read : (texts : List (List ℕ)) → all_octets (take 0 texts) ≡ 0
 none_read [] = refl
 none_read (t ∷ ts) = refl
 
-module _ (most : ℕ) (texts : List (List ℕ)) (old : ℕ) where
-  -- The ticks of the entries before a place: at most four for each unit of the work that they took, one for each octet and two for each entry. So
+module _ (max_count : ℕ) (texts : List (List ℕ)) (old : ℕ) where
+  -- The ticks of the entries before an index: at most four for each unit of the work that they took, one for each octet and two for each entry. So
   -- much work may still be done.
-  pub record TicksTo (place : ℕ) (left : Option ℕ) (now : ℕ) : Type 0 where
+  pub record TicksTo (index : ℕ) (left : Option ℕ) (now : ℕ) : Type 0 where
     pub work : ℕ
-    pub took : Takes (Some most) left work
-    pub ticks : now ≤ old + 4 * work + all_octets (take place texts) + 2 * place
+    pub took : Takes (Some max_count) left work
+    pub ticks : now ≤ old + 4 * work + all_octets (take index texts) + 2 * index
 
-  pub none_counted : (left : Option ℕ) → left ≡ Some most → TicksTo 0 left old
-  none_counted left same = record { work = 0; took = none_taken (Some most) left same; ticks = omega (arith, none_read texts) }
+  pub none_counted : (left : Option ℕ) → left ≡ Some max_count → TicksTo 0 left old
+  none_counted left same = record { work = 0; took = none_taken (Some max_count) left same; ticks = omega (arith, none_read texts) }
 
-  pub ticks_within : (place : ℕ) (left : Option ℕ) (now : ℕ) → place ≤ length texts → TicksTo place left now
-      → now ≤ old + 4 * most + all_octets texts + 2 * length texts
-  ticks_within place left now few h =
-      omega (arith, few, h.ticks, within_limit most left h.work h.took, sum_by-take-le length texts place)
+  pub ticks_within : (index : ℕ) (left : Option ℕ) (now : ℕ) → index ≤ length texts → TicksTo index left now
+      → now ≤ old + 4 * max_count + all_octets texts + 2 * length texts
+  ticks_within index left now few h =
+      omega (arith, few, h.ticks, within_limit max_count left h.work h.took, sum_by-take-le length texts index)
 
-  module _ (place : ℕ) (below : place < length texts) (left : Option ℕ) (now : ℕ) (before : TicksTo place left now) (read : ℕ)
-      (reads : read ≡ now + 1 + length (get_or texts place [])) where
+  module _ (index : ℕ) (below : index < length texts) (left : Option ℕ) (now : ℕ) (before : TicksTo index left now) (read : ℕ)
+      (reads : read ≡ now + 1 + length (get_or texts index [])) where
     -- the ticks after one entry more is read
-    pub read_within : read ≤ old + 4 * most + all_octets texts + 2 * length texts
+    pub read_within : read ≤ old + 4 * max_count + all_octets texts + 2 * length texts
     read_within =
         omega (
           arith,
           below,
           before.ticks,
-          within_limit most left before.work before.took,
+          within_limit max_count left before.work before.took,
           reads,
-          sum_by_more_le length texts place [] below,
+          sum_by_more_le length texts index [] below,
         )
 
     -- the ticks after it is joined with the certificates
     pub one_joined : (after : Option ℕ) (new : ℕ) (policy : Policy) (uncounted : ℕ) (tuples : List Tuple) (e : Entry) → uncounted ≡ 0
-        → AreTicksOfEntry left after read new policy uncounted tuples e → TicksTo (place + 1) after new
+        → AreTicksOfEntry left after read new policy uncounted tuples e → TicksTo (index + 1) after new
     one_joined after new policy uncounted tuples e counted h =
         let (n, takes, few) = ticks_taken left after read new policy tuples e
         (subst (λ (u : ℕ). AreTicksOfEntry left after read new policy u tuples e) counted h) in
         record {
           work = before.work + n;
-          took = taken (Some most) left after before.work n before.took takes;
-          ticks = omega (arith, before.ticks, reads, few, sum_by_more length texts place [] below);
+          took = taken (Some max_count) left after before.work n before.took takes;
+          ticks = omega (arith, before.ticks, reads, few, sum_by_more length texts index [] below);
         }
 
 counts : (old new steps : ℕ) (fold : EntryFold) → CountsSteps old new steps fold → old ≤ new
@@ -148,12 +148,12 @@ counts old new steps (Done f) h = omega (arith, h)
 counts old new steps (Stopped item cause) h = omega (arith, h)
 
 -- at least one tick is counted for each octet of the entries so far, and for each entry
-pub one_read : (texts : List (List ℕ)) (place old now read new steps : ℕ) (fold : EntryFold) → place < length texts
-    → old + all_octets (take place texts) + place ≤ now → read ≡ now + 1 + length (get_or texts place []) → CountsSteps read new steps fold
-    → old + all_octets (take (place + 1) texts) + (place + 1) ≤ new
-one_read texts place old now read new steps fold below before reads h =
-    omega (arith, before, reads, counts read new steps fold h, sum_by_more length texts place [] below)
+pub one_read : (texts : List (List ℕ)) (index old now read new steps : ℕ) (fold : EntryFold) → index < length texts
+    → old + all_octets (take index texts) + index ≤ now → read ≡ now + 1 + length (get_or texts index []) → CountsSteps read new steps fold
+    → old + all_octets (take (index + 1) texts) + (index + 1) ≤ new
+one_read texts index old now read new steps fold below before reads h =
+    omega (arith, before, reads, counts read new steps fold h, sum_by_more length texts index [] below)
 
-pub all_read : (texts : List (List ℕ)) (place old now : ℕ) → place ≡ length texts → old + all_octets (take place texts) + place ≤ now
+pub all_read : (texts : List (List ℕ)) (index old now : ℕ) → index ≡ length texts → old + all_octets (take index texts) + index ≤ now
     → old + all_octets texts + length texts ≤ now
-all_read texts place old now whole h = omega (arith, h, whole, ap all_octets (take_all place texts (omega (arith, whole))))
+all_read texts index old now whole h = omega (arith, h, whole, ap all_octets (take_all index texts (omega (arith, whole))))

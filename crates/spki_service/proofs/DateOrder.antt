@@ -76,7 +76,7 @@ ahead xs i h =
     drop_more xs i 0 (omega arith)
     ∙ ap (λ (t : List ℕ). get_or xs i 0 ∷ t) (drop_more xs (i + 1) 0 h ∙ ap (λ (j : ℕ). get_or xs (i + 1) 0 ∷ drop j xs) next)
 
--- ---- the numbers that a date has from some place on, packed into one
+-- ---- the numbers that a date has from some index on, packed into one
 
 abbrev second_number : List ℕ → ℕ
 second_number octets = number_at octets 17 * 1 + 0

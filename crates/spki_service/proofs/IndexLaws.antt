@@ -1,7 +1,7 @@
 -- The index of an access list: the numbers of the entries that pass a test, and the numbers that the index has for a key.
 use Rattle.std.proofs.Common.{◌≡◌, ℕ, List, [], ◌∷◌, length, refl, sym, arith, suc, ◌<◌, Bool, true, false, cond, ◌&&◌, ◌||◌, map, ap, ◌∙◌, rules, Some, None}
 use Rattle.std.proofs.{Math.Bool.{and-false, or-false}, lemmas.Cmp.{nat_list_eq_equiv}}
-use Rattle.spki_tag.{specs.Places.{merge}, proofs.Places.{merge-nil, StartsAbove, merge-left, merge-right}}
+use Rattle.spki_tag.{specs.Positions.{merge}, proofs.Positions.{merge-nil, StartsAbove, merge-left, merge-right}}
 use Rattle.spki_cert.specs.declared.{entry.Entry.{Entry}, hash.HashAlg.{HashAlg, TheVariants.{Sha1, Sha256, Sha512}}}
 use Rattle.spki_cert.specs.declared.principal.{Policy.{Policy}, Principal.{Principal, TheVariants.{Key, Hash}}}
 use Rattle.spki_cert.specs.Naming.{names, admits, digest_of}

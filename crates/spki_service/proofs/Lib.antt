@@ -7,7 +7,7 @@ pub mod AnswerLaws
 pub mod ListReading
 pub mod DateLaws
 pub mod OneAsking
-pub mod MarkedPlaces
+pub mod MarkedIndices
 pub mod ReplayedCases
 pub mod Costs
 pub mod DateSeconds

@@ -195,8 +195,8 @@ items_one q c d a b =
     sequence-one sequences.value c.items d.items sequences.one sequences.other
 
 pub case-one : (q : Question) (c d : Case) → IsAskedCase q c → IsAskedCase q d → c.policy ≡ d.policy
-    → c.most_nodes ≡ d.most_nodes → c.most_work ≡ d.most_work → c.uncounted ≡ d.uncounted → c ≡ d
-case-one q c d a b policy most_nodes most_work uncounted =
+    → c.max_nodes ≡ d.max_nodes → c.max_work ≡ d.max_work → c.uncounted ≡ d.uncounted → c ≡ d
+case-one q c d a b policy max_nodes max_work uncounted =
     let items = items_one q c d a b in
     let keys = both (of_text q.key.now) a.key b.key in
     let key = key-one keys.value c.key d.key keys.one keys.other in

@@ -107,18 +107,18 @@ rest_weight all left further first within parts = search (rules, weights)
 
 -- ---- how many strings the text of a request has
 
-module _ (q : Question) (texts : Texts) (t : IsTextsOf q texts) (c : Case) (a : IsAskedCase q c) (most : ℕ) (has_more : Bool) where
-  few : (v : Value) → TellsStrings most has_more v → has_more ≡ false → strings_in v ≤ most
+module _ (q : Question) (texts : Texts) (t : IsTextsOf q texts) (c : Case) (a : IsAskedCase q c) (max_count : ℕ) (has_more : Bool) where
+  few : (v : Value) → TellsStrings max_count has_more v → has_more ≡ false → strings_in v ≤ max_count
   few v tells is = search rules
 
-  module _ (tells : OfText texts.request (TellsStrings most has_more)) where
-    read : Reads (IsWanted q.request) (TellsStrings most has_more)
-    read = said_read (IsWanted q.request) (RefusesWanted q.request) (TellsStrings most has_more) texts.request t.request tells
+  module _ (tells : OfText texts.request (TellsStrings max_count has_more)) where
+    read : Reads (IsWanted q.request) (TellsStrings max_count has_more)
+    read = said_read (IsWanted q.request) (RefusesWanted q.request) (TellsStrings max_count has_more) texts.request t.request tells
 
-    pub has_many : has_more ≡ true → Reads (IsWanted q.request) (λ v. most < strings_in v)
+    pub has_many : has_more ≡ true → Reads (IsWanted q.request) (λ v. max_count < strings_in v)
     has_many is = record { value = read.value; meant = read.meant; short = read.short; is = read.is.0 is }
 
-    pub has_few : has_more ≡ false → HasFewStrings most q
+    pub has_few : has_more ≡ false → HasFewStrings max_count q
     has_few is = record { value = read.value; meant = read.meant; short = read.short; is = few read.value read.is is }
 
 -- a request that is read has a text
@@ -186,8 +186,8 @@ length_more ws k d h =
     member_written word_value ws k d [] (octets_of k ws) (octets_of k ws ++ verbatim (get_or ws k d).now) h refl refl in
     sym (ap length e) ∙ length-append (octets_of k ws) (verbatim (get_or ws k d).now)
 
-pub length_most : (ws : List (Bor (List ℕ))) (k : ℕ) → length (octets_of k ws) ≤ length (canons (values (map word_value ws)))
-length_most ws k =
+pub length_part : (ws : List (Bor (List ℕ))) (k : ℕ) → length (octets_of k ws) ≤ length (canons (values (map word_value ws)))
+length_part ws k =
     let e : map word_value ws ≡ map word_value (take k ws) ++ map word_value (drop k ws) =
     ap (map word_value) (sym (take-append-drop k ws)) ∙ map-append word_value (take k ws) (drop k ws) in
     let whole : length (canons (values (map word_value ws))) ≡ length (octets_of k ws) + length (canons (values (map word_value (drop k ws)))) =
@@ -202,24 +202,25 @@ words_length ws other = search (rules, many_words, length-append)
 
 -- ---- how many octets are left of those that may still come
 
-pub none_left : (r : Option ℕ) (room octets : ℕ) → r ≡ None → room < octets → MatchOption r (room < octets) (λ left. left + octets ≡ room)
-none_left r room octets is h = rw is h
+pub none_left : (r : Option ℕ) (remaining octets : ℕ) → r ≡ None → remaining < octets
+    → MatchOption r (remaining < octets) (λ left. left + octets ≡ remaining)
+none_left r remaining octets is h = rw is h
 
-pub last_left : (r : Option ℕ) (left last room octets : ℕ) → left + octets ≡ room + last
-    → MatchOption r (left < last) (λ rest. rest + last ≡ left) → MatchOption r (room < octets) (λ rest. rest + octets ≡ room)
-last_left None left last room octets e h = omega arith
-last_left (Some rest) left last room octets e h = omega arith
+pub last_left : (r : Option ℕ) (left last remaining octets : ℕ) → left + octets ≡ remaining + last
+    → MatchOption r (left < last) (λ rest. rest + last ≡ left) → MatchOption r (remaining < octets) (λ rest. rest + octets ≡ remaining)
+last_left None left last remaining octets e h = omega arith
+last_left (Some rest) left last remaining octets e h = omega arith
 
-module _ (ws : List (Bor (List ℕ))) (k left room : ℕ) (e : left + (length (octets_of k ws) + 2) ≡ room) where
+module _ (ws : List (Bor (List ℕ))) (k left remaining : ℕ) (e : left + (length (octets_of k ws) + 2) ≡ remaining) where
   pub too_few : (d : Bor (List ℕ)) → (length ws ≡ 1 → ⊥) → k < length ws → left < length (verbatim (get_or ws k d).now)
-      → room < length (canon (words_value (words_now ws)))
-  too_few d other h low = omega (arith, e, length_more ws k d h, length_most ws (k + 1), words_length ws other)
+      → remaining < length (canon (words_value (words_now ws)))
+  too_few d other h low = omega (arith, e, length_more ws k d h, length_part ws (k + 1), words_length ws other)
 
   pub one_less : (d : Bor (List ℕ)) (rest : ℕ) → k < length ws → rest + length (verbatim (get_or ws k d).now) ≡ left
-      → rest + (length (octets_of (k + 1) ws) + 2) ≡ room
+      → rest + (length (octets_of (k + 1) ws) + 2) ≡ remaining
   one_less d rest h f = omega (arith, e, length_more ws k d h)
 
-  pub all_less : (length ws ≡ 1 → ⊥) → length ws ≤ k → left + length (canon (words_value (words_now ws))) ≡ room
+  pub all_less : (length ws ≡ 1 → ⊥) → length ws ≤ k → left + length (canon (words_value (words_now ws))) ≡ remaining
   all_less other le = search (rules, take_all, words_length)
 
 -- ---- lists of strings are not too deep

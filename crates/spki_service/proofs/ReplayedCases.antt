@@ -30,12 +30,12 @@ module _ (a : PreparedModel) (rows : List Row) (are : AreRowsOf rows (asked a.ca
   accepts_row key message value = list_any (is_row_of key message value) rows ≡ true
 
   tells : MarksTell accepts_row (asked a.case) a.marks
-  tells place s stands = (
-    λ marked. let (number, r, there, is) = are.marked place s stands marked in any_passes_from_place _ rows number r there is,
+  tells index s stands = (
+    λ marked. let (number, r, there, is) = are.marked index s stands marked in any_passes_from_place _ rows number r there is,
     λ accepted.
         let (number, r, there, is) = row_there (is_row_of s.key s.message s.value) rows accepted in
         let (other, t, listed, marked, of) = are.others number r there in
-        alike other place t s r listed stands of is marked,
+        alike other index t s r listed stands of is marked,
   )
 
   pub replayed : (d : Decision) → DecidesMarked a d → (es : List Entry) → AreEntries a.texts es → IsDecision (with_entries a.case es) accepts_row d
@@ -49,10 +49,10 @@ module _ (a : PreparedModel) (es : List Entry) (c : Case) (of : IsCaseOfParts a 
 
   to_whole : (n : ℕ) → Granted n c verified → Granted n whole verified
   to_whole n g = record {
-    place = g.place;
+    index = g.index;
     numbered = g.numbered;
     entry = g.entry;
-    stands = subst (λ xs. slice_get xs g.place ≡ Some g.entry) of.entries g.stands;
+    stands = subst (λ xs. slice_get xs g.index ≡ Some g.entry) of.entries g.stands;
     tuples = g.tuples;
     shown = rw (of.policy, of.items) at g.shown;
     supported = rw (of.policy, of.key, of.request, of.moment) at g.supported;
@@ -60,10 +60,10 @@ module _ (a : PreparedModel) (es : List Entry) (c : Case) (of : IsCaseOfParts a 
 
   from_whole : (n : ℕ) → Granted n whole verified → Granted n c verified
   from_whole n g = record {
-    place = g.place;
+    index = g.index;
     numbered = g.numbered;
     entry = g.entry;
-    stands = subst (λ xs. slice_get xs g.place ≡ Some g.entry) (sym of.entries) g.stands;
+    stands = subst (λ xs. slice_get xs g.index ≡ Some g.entry) (sym of.entries) g.stands;
     tuples = g.tuples;
     shown = rw (← of.policy, ← of.items) at g.shown;
     supported = rw (← of.policy, ← of.key, ← of.request, ← of.moment) at g.supported;

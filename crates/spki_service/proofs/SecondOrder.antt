@@ -49,7 +49,7 @@ clock_same n h = grind (arith, nat_tests)
 
 -- ---- times of day are ordered as their seconds are
 
-module _ (h i s hour minute second : ℕ) (few : i < 60) (whole : s < 60) (also : minute < 60) (most : second ≤ 60) where
+module _ (h i s hour minute second : ℕ) (few : i < 60) (whole : s < 60) (also : minute < 60) (max_count : second ≤ 60) where
   clock_before : h * 10_000 + (i * 100 + s) ≤ hour * 10_000 + (minute * 100 + second)
       → h * 3600 + i * 60 + min s 59 ≤ hour * 3600 + minute * 60 + min second 59
   clock_before le =

@@ -34,7 +34,7 @@ held vs es each = search
 
 -- an entry has this number in the list, whose first entry has the number n
 abbrev pub Counted : ℕ → List Entry → ℕ × Entry → Type 0
-Counted n es k = (place : ℕ) × (k.0 ≡ n + place) × (slice_get es place ≡ Some k.1)
+Counted n es k = (index : ℕ) × (k.0 ≡ n + index) × (slice_get es index ≡ Some k.1)
 
 one_further : (n : ℕ) (e : Entry) (es : List Entry) (ks : List (ℕ × Entry)) → AllByRecursion (Counted (suc n) es) ks
     → AllByRecursion (Counted n (e ∷ es)) ks
@@ -57,13 +57,13 @@ are_numbers es long (k ∷ ks) same all = search (rules, slice_get_within, are_n
 
 -- ---- the entries that are picked by these numbers are those that pass the test
 
-same_place : (es : List Entry) (n : ℕ) (e f : Entry) → HasNumber es n e → Counted 1 es (n, f) → e ≡ f
-same_place es n e f has is = search (rules, some-one, slice_get)
+same_index : (es : List Entry) (n : ℕ) (e f : Entry) → HasNumber es n e → Counted 1 es (n, f) → e ≡ f
+same_index es n e f has is = search (rules, some-one, slice_get)
 
 all_picked : (es : List Entry) (ks : List (ℕ × Entry)) (picked : List Entry) → AllByRecursion (Counted 1 es) ks
     → ArePicked es (map first ks) picked → picked ≡ map second ks
 all_picked es [] [] all are = refl
-all_picked es (k ∷ ks) (p ∷ picked) all are = search (rules, same_place, all_picked es ks picked all.1 are.1)
+all_picked es (k ∷ ks) (p ∷ picked) all are = search (rules, same_index, all_picked es ks picked all.1 are.1)
 all_picked es ks picked all are = search
 
 -- ---- the entries that pass a test are a part of a list, and those that are missing do not pass it
@@ -91,16 +91,16 @@ kept_weaker Out Other also n (e ∷ es) [] kept = (also e kept.0, kept_weaker Ou
 kept_weaker Out Other also n (e ∷ es) (k ∷ ks) (inl out) = inl (also e out.0, kept_weaker Out Other also (suc n) es (k ∷ ks) out.1)
 kept_weaker Out Other also n (e ∷ es) (k ∷ ks) (inr here) = inr (here.0, kept_weaker Out Other also (suc n) es ks here.1)
 
--- ---- the entry at the place of its number
+-- ---- the entry at the index of its number
 
 pair_at : (ks : List (ℕ × Entry)) (k m : ℕ) → slice_get (map first ks) k ≡ Some m → (e : Entry) × (slice_get ks k ≡ Some (m, e))
 pair_at [] k m stands = absurd (none-some m stands)
 pair_at ((n, e) ∷ ks) zero m stands = let same : n ≡ m = cc in (e, ap (λ (j : ℕ). Some (j, e)) same)
 pair_at (j ∷ ks) (suc k) m stands = pair_at ks k m stands
 
--- each of the numbers is that of an entry of the list, which is kept at this place
+-- each of the numbers is that of an entry of the list, which is kept at this index
 pub numbered : (p : Entry → Bool) (es : List Entry) (k m : ℕ) → slice_get (numbers_from 1 p es) k ≡ Some m
-    → (place : ℕ) × (e : Entry) × (m ≡ 1 + place) × (slice_get es place ≡ Some e) × (slice_get (kept_from 1 p es) k ≡ Some (m, e))
+    → (index : ℕ) × (e : Entry) × (m ≡ 1 + index) × (slice_get es index ≡ Some e) × (slice_get (kept_from 1 p es) k ≡ Some (m, e))
 numbered p es k m stands =
     let pair = pair_at (kept_from 1 p es) k m stands in
     let l = listed (λ e. p e ≡ false) 1 es (kept_from 1 p es) k m pair.0 (are_kept p es 1) pair.1 in
@@ -165,7 +165,7 @@ module _ (c : Case) (es : List Entry) (tuples : List Tuple) where
       let test = is_of c.policy (first_key c.key tuples) in
       rw (e ∙ are) (are_numbers es long (kept_from 1 test es) same (counted test 1 es))
 
--- ---- the text and the entry at one place
+-- ---- the text and the entry at one index
 
 pub entry_there : (texts : List (List ℕ)) (es : List Entry) (i : ℕ) → AreEntries texts es
     → i < length texts → (e : Entry) × (slice_get es i ≡ Some e) × IsEntryText (get_or texts i []) e
@@ -199,21 +199,21 @@ pub picked_there : (texts : List (List ℕ)) (es picked : List Entry) (numbers :
     → AreEntries texts es → AreNumbers (length texts) numbers → ArePicked es numbers picked → i < length numbers
     → ((f : Entry) → IsEntryText (get_or texts (get_or numbers i 0 - 1) []) f → e ≡ f) → slice_get picked i ≡ Some e
 picked_there texts es picked numbers i e are within picks below found =
-    let (p, there, (place, numbered, stands)) = picked_at es numbers picked i picks below in
+    let (p, there, (index, numbered, stands)) = picked_at es numbers picked i picks below in
     let (low, high) = number_at (length texts) numbers i 0 within below in
     let (f, here, is) = entry_there texts es (get_or numbers i 0 - 1) are (omega (arith, low, high)) in
-    let same : place ≡ get_or numbers i 0 - 1 = omega (arith, numbered) in
+    let same : index ≡ get_or numbers i 0 - 1 = omega (arith, numbered) in
     there ∙ sym stands ∙ ap (slice_get es) same ∙ here ∙ ap Some (sym (found f is))
 
--- an entry that is read from the text at a place is the one with its number
-pub read_there : (texts : List (List ℕ)) (es : List Entry) (numbers : List ℕ) (i place : ℕ) (e read : Entry) → AreEntries texts es
+-- an entry that is read from the text at an index is the one with its number
+pub read_there : (texts : List (List ℕ)) (es : List Entry) (numbers : List ℕ) (i index : ℕ) (e read : Entry) → AreEntries texts es
     → AreNumbers (length texts) numbers → i < length numbers
-    → ((f : Entry) → IsEntryText (get_or texts (get_or numbers i 0 - 1) []) f → read ≡ f) → get_or numbers i 0 ≡ suc place
-    → slice_get es place ≡ Some e → read ≡ e
-read_there texts es numbers i place e read are within below found numbered stands =
+    → ((f : Entry) → IsEntryText (get_or texts (get_or numbers i 0 - 1) []) f → read ≡ f) → get_or numbers i 0 ≡ suc index
+    → slice_get es index ≡ Some e → read ≡ e
+read_there texts es numbers i index e read are within below found numbered stands =
     let (low, high) = number_at (length texts) numbers i 0 within below in
     let (f, here, is) = entry_there texts es (get_or numbers i 0 - 1) are (omega (arith, low, high)) in
-    let same : get_or numbers i 0 - 1 ≡ place = omega (arith, numbered) in
+    let same : get_or numbers i 0 - 1 ≡ index = omega (arith, numbered) in
     found f is ∙ some-one here (ap (slice_get es) same ∙ stands)
 
 entry_at : (es : List Entry) (i : ℕ) → i < length es → (e : Entry) × (slice_get es i ≡ Some e)

@@ -24,7 +24,7 @@ filter_none : {X : Type 0} (p : X → Bool) (xs : List X) → AllByRecursion (λ
 filter_none p [] none = refl
 filter_none p (x ∷ xs) none = rw none.0 (filter_none p xs none.1)
 
--- the elements from a place on, if none before it passes
+-- the elements from an index on, if none before it passes
 filter_behind : {X : Type 0} (p : X → Bool) (xs : List X) (a : ℕ) → ((k : ℕ) (d : X) → k < a → k < length xs → p (get_or xs k d) ≡ false)
     → filter p xs ≡ filter p (drop a xs)
 filter_behind p [] a none = by a
@@ -36,7 +36,7 @@ filter_behind p (x ∷ xs) zero none = refl
 filter_behind p (x ∷ xs) (suc a) none =
     rw (none 0 x (omega arith) (omega arith)) (filter_behind p xs a (λ k d low long. none (suc k) d (omega (arith, low)) (omega (arith, long))))
 
--- the elements before a place, if these pass and no other
+-- the elements before an index, if these pass and no other
 filter_before : {X : Type 0} (p : X → Bool) (xs : List X) (c : ℕ) → ((k : ℕ) (d : X) → k < c → k < length xs → p (get_or xs k d) ≡ true)
     → ((k : ℕ) (d : X) → c ≤ k → k < length xs → p (get_or xs k d) ≡ false) → filter p xs ≡ take c xs
 filter_before p [] c passes fails = by c

@@ -169,7 +169,7 @@ pub record IsIndexOf (es : List Entry) (index : EntryIndex) : Type 0 where
 
 -- an entry has this number in a list
 abbrev pub HasNumber : List Entry → ℕ → Entry → Type 0
-HasNumber es n e = (place : ℕ) × (n ≡ suc place) × (slice_get es place ≡ Some e)
+HasNumber es n e = (index : ℕ) × (n ≡ suc index) × (slice_get es index ≡ Some e)
 
 -- these are the entries with these numbers
 abbrev pub ArePicked : List Entry → List ℕ → List Entry → Type 0
@@ -195,10 +195,10 @@ DecidesKept c tuples kept d = (part : Decision) × Names (kept_case c kept) tupl
 abbrev pub DecidesPartly : Case → List Tuple → Decision → Type 0
 DecidesPartly c tuples d = (kept : List (ℕ × Entry)) × AreKept (IsLeftOut c tuples) 1 c.entries kept × DecidesKept c tuples kept d
 
--- a decision names an entry by its place among the entries with these numbers, and another one by its number
+-- a decision names an entry by its index among the entries with these numbers, and another one by its number
 abbrev pub IsNumbered : List ℕ → Decision → Decision → Type 0
-IsNumbered numbers (Yes place) (Yes n) = slice_get numbers (place - 1) ≡ Some n
-IsNumbered numbers (Yes place) No = ⊥
+IsNumbered numbers (Yes index) (Yes n) = slice_get numbers (index - 1) ≡ Some n
+IsNumbered numbers (Yes index) No = ⊥
 IsNumbered numbers No (Yes n) = ⊥
 IsNumbered numbers No No = Unit {0}
 

@@ -40,4 +40,4 @@ all_octets texts = sum_by length texts
 -- The most ticks of reading all entries and joining each with all certificates: four for each unit of the work that the case allows, one for each
 -- octet of the entries' texts, and two for each entry.
 abbrev pub fold_ticks : PreparedModel → ℕ
-fold_ticks a = 4 * a.case.most_work + all_octets a.texts + 2 * length a.texts
+fold_ticks a = 4 * a.case.max_work + all_octets a.texts + 2 * length a.texts

@@ -131,44 +131,44 @@ Answers IsAnswer a (Err Memory) = Unit {0}
 
 -- ---- marks
 
--- the place has a mark: a service says that the signature that is listed there is valid
+-- there is a mark at this index: a service says that the signature that is listed there is valid
 abbrev pub IsMarked : List Bool → ℕ → Type 0
-IsMarked marks place = slice_get marks place ≡ Some true
+IsMarked marks index = slice_get marks index ≡ Some true
 
--- no place has a mark
+-- there is no mark at any index
 abbrev pub NoneMarked : List Bool → Type 0
-NoneMarked marks = (place : ℕ) → ¬ IsMarked marks place
+NoneMarked marks = (index : ℕ) → ¬ IsMarked marks index
 
--- This place has a mark, and every other place that has one before.
-pub record IsMarkedToo (old : List Bool) (place : ℕ) (new : List Bool) : Type 0 where
-  pub only : (other : ℕ) → IsMarked new other ↔ ((other ≡ place) ⊎ IsMarked old other)
+-- There is a mark at this index, and at every other that had one before.
+pub record IsMarkedToo (old : List Bool) (index : ℕ) (new : List Bool) : Type 0 where
+  pub only : (other : ℕ) → IsMarked new other ↔ ((other ≡ index) ⊎ IsMarked old other)
   pub counted : length new ≡ length old
 
--- the first place below a number that has no mark, if there is one
+-- the first index below a number without a mark, if there is one
 abbrev pub IsFirstUnmarked : ℕ → List Bool → Option ℕ → Type 0
-IsFirstUnmarked count marks None = (place : ℕ) → place < count → IsMarked marks place
-IsFirstUnmarked count marks (Some place) =
-    (place < count) × ¬ IsMarked marks place × ((other : ℕ) → other < place → IsMarked marks other)
+IsFirstUnmarked count marks None = (index : ℕ) → index < count → IsMarked marks index
+IsFirstUnmarked count marks (Some index) =
+    (index < count) × ¬ IsMarked marks index × ((other : ℕ) → other < index → IsMarked marks other)
 
--- Each listed signature has a mark at its place. A signature that is listed twice has two places.
+-- Each listed signature has a mark at its index. A signature that is listed twice has two marks.
 abbrev pub AllMarked : List Signed → List Bool → Type 0
-AllMarked signed marks = (place : ℕ) (s : Signed) → slice_get signed place ≡ Some s → IsMarked marks place
+AllMarked signed marks = (index : ℕ) (s : Signed) → slice_get signed index ≡ Some s → IsMarked marks index
 
--- This is the first listed signature without a mark at its place.
+-- This is the first listed signature without a mark at its index.
 pub record IsUnmarked (signed : List Signed) (marks : List Bool) (one : Signed) : Type 0 where
-  pub place : ℕ
-  pub stands : slice_get signed place ≡ Some one
-  pub not_marked : ¬ IsMarked marks place
-  pub before : (other : ℕ) → other < place → IsMarked marks other
+  pub index : ℕ
+  pub stands : slice_get signed index ≡ Some one
+  pub not_marked : ¬ IsMarked marks index
+  pub before : (other : ℕ) → other < index → IsMarked marks other
 
--- What is true of a question by its marks: `whole`, the statement for valid signatures, if each listed signature has a mark at its place;
+-- What is true of a question by its marks: `whole`, the statement for valid signatures, if each listed signature has a mark at its index;
 -- otherwise `stopped` of the first one without a mark.
 abbrev pub ByMarks : PreparedModel → (whole : Type 0) → (stopped : Signed → Type 0) → Type 0
 ByMarks a whole stopped =
     (AllMarked (asked a.case) a.marks × whole)
     ⊎ ((one : Signed) × IsUnmarked (asked a.case) a.marks one × stopped one)
 
--- the decision by the marks: no, unless each listed signature has a mark at its place
+-- the decision by the marks: no, unless each listed signature has a mark at its index
 abbrev pub DecidesMarked : PreparedModel → Decision → Type 0
 DecidesMarked a d = ByMarks a (Decides every a d) (λ one. d ≡ No)
 
@@ -207,10 +207,10 @@ ExplainsMarked = AnswersMarked IsExplained (λ one. explanations.Evidence one.it
 abbrev pub ReducesMarked : PreparedModel → Result Reduction GuardFault → Type 0
 ReducesMarked = AnswersMarked IsReduced (λ one. reductions.Evidence one.item NotAccepted)
 
--- Marks tell what a verifier accepts: the place of a signature has a mark exactly if the verifier accepts the signature.
+-- Marks tell what a verifier accepts: the index of a signature has a mark exactly if the verifier accepts the signature.
 abbrev pub MarksTell : Verified → List Signed → List Bool → Type 0
 MarksTell verified signed marks =
-    (place : ℕ) (s : Signed) → slice_get signed place ≡ Some s → IsMarked marks place ↔ IsAccepted verified s
+    (index : ℕ) (s : Signed) → slice_get signed index ≡ Some s → IsMarked marks index ↔ IsAccepted verified s
 
 -- ---- what a question that was read keeps of its texts
 
@@ -219,8 +219,8 @@ pub record IsReadFrom (held : GuardModel) (texts : Texts) (a : PreparedModel) : 
   pub entries : a.texts ≡ held.texts
   pub is : (q : Question) → IsTextsOf q texts → IsAskedCase q a.case
   pub policy : a.case.policy ≡ held.policy
-  pub nodes : a.case.most_nodes ≡ held.nodes
-  pub work : a.case.most_work ≡ held.work
+  pub nodes : a.case.max_nodes ≡ held.nodes
+  pub work : a.case.max_work ≡ held.work
   pub counted : a.case.uncounted ≡ 0
   pub answer : a.answer ≡ held.answer
   pub few : certificates_in a.case.items ≤ held.certificates
@@ -236,7 +236,7 @@ pub record IsConditionalGrant (held : GuardModel) (texts : Texts) (signed : List
 -- ---- questions that own what they need
 
 -- The question is opened for the guard. The opened question has its texts, which together have no more octets than the guard's limit, the
--- signatures that a verifier is asked about, a place for the mark of each, and what is granted if all of them are valid.
+-- signatures that a verifier is asked about, the mark of each, and what is granted if all of them are valid.
 pub record IsOpened (held : GuardModel) (q : Question) (o : OwnedQuestion) : Type 0 where
   pub guard_is : o.guard ≡ held
   pub texts : IsTextsOf q o.texts
@@ -244,9 +244,9 @@ pub record IsOpened (held : GuardModel) (q : Question) (o : OwnedQuestion) : Typ
   pub kept : IsConditionalGrant o.guard o.texts o.signed.items o.if_valid
   pub counted : length o.marks.items ≡ length o.signed.items
 
--- The same question, with a mark at one more place.
-pub record HasMark (old : OwnedQuestion) (place : ℕ) (new : OwnedQuestion) : Type 0 where
-  pub marks : IsMarkedToo old.marks.items place new.marks.items
+-- The same question, with a mark at one more index.
+pub record HasMark (old : OwnedQuestion) (index : ℕ) (new : OwnedQuestion) : Type 0 where
+  pub marks : IsMarkedToo old.marks.items index new.marks.items
   pub others : new ≡ record old { marks = new.marks }
 
 -- ---- what the entries of canonical texts become, each with all certificates (RFC 2693, section 6.3)

@@ -239,28 +239,28 @@ abbrev mutual
   strings_all none = 0
   strings_all (more v vs) = strings_in v + strings_all vs
 
--- whether a value has more strings than `most`
+-- whether a value has more strings than `max_count`
 abbrev pub TellsStrings : ℕ → Bool → Value → Type 0
-TellsStrings most has_more v = IsTrue has_more ↔ (most < strings_in v)
+TellsStrings max_count has_more v = IsTrue has_more ↔ (max_count < strings_in v)
 
 -- the request has at most so many strings
 abbrev pub HasFewStrings : ℕ → Question → Type 0
-HasFewStrings most q = Reads (IsWanted q.request) (λ v. strings_in v ≤ most)
+HasFewStrings max_count q = Reads (IsWanted q.request) (λ v. strings_in v ≤ max_count)
 
 -- ---- refusals for too many certificates or strings, and all refusals
 
 -- The question is read, and has more certificates.
-pub record HasManyCertificates (most : ℕ) (q : Question) : Type 0 where
+pub record HasManyCertificates (max_count : ℕ) (q : Question) : Type 0 where
   pub case_read : Case
   pub is : IsAskedCase q case_read
-  pub many : most < certificates_in case_read.items
+  pub many : max_count < certificates_in case_read.items
 
 -- The question is read, and its request has more strings. It does not have too many certificates.
-pub record HasManyStrings (certificates most : ℕ) (q : Question) : Type 0 where
+pub record HasManyStrings (certificates max_count : ℕ) (q : Question) : Type 0 where
   pub case_read : Case
   pub is : IsAskedCase q case_read
   pub few : certificates_in case_read.items ≤ certificates
-  pub many : Reads (IsWanted q.request) (λ v. most < strings_in v)
+  pub many : Reads (IsWanted q.request) (λ v. max_count < strings_in v)
 
 abbrev pub IsTooMany : (certificates words : ℕ) → Question → AskFault → Type 0
 IsTooMany certificates words q faults.TooManyCertificates = HasManyCertificates certificates q

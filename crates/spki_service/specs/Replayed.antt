@@ -20,13 +20,13 @@ IsRowOf r s = IsTrue (is_row_of s.key s.message s.value r)
 
 -- There are rows for exactly the marked signatures.
 pub record AreRowsOf (rows : List Row) (signed : List Signed) (marks : List Bool) : Type 0 where
-  pub marked : (place : ℕ) (s : Signed) → slice_get signed place ≡ Some s → IsMarked marks place
+  pub marked : (index : ℕ) (s : Signed) → slice_get signed index ≡ Some s → IsMarked marks index
       → (number : ℕ) × (r : Row) × (slice_get rows number ≡ Some r) × IsRowOf r s
   pub others : (number : ℕ) (r : Row) → slice_get rows number ≡ Some r
-      → (place : ℕ) × (s : Signed) × (slice_get signed place ≡ Some s) × IsMarked marks place × IsRowOf r s
+      → (index : ℕ) × (s : Signed) × (slice_get signed index ≡ Some s) × IsMarked marks index × IsRowOf r s
 
 -- Signatures that one row is of are marked alike. Their key, their value and a digest of their messages are equal.
 abbrev pub AreMarkedAlike : List Signed → List Bool → Type 0
 AreMarkedAlike signed marks =
-    (place other : ℕ) (s t : Signed) (r : Row) → slice_get signed place ≡ Some s → slice_get signed other ≡ Some t
-    → IsRowOf r s → IsRowOf r t → IsMarked marks place → IsMarked marks other
+    (index other : ℕ) (s t : Signed) (r : Row) → slice_get signed index ≡ Some s → slice_get signed other ≡ Some t
+    → IsRowOf r s → IsRowOf r t → IsMarked marks index → IsMarked marks other

@@ -71,7 +71,7 @@ impl<'a> PreparedQuestion<'a> {
     }
 
     /// What the question is granted, as by `grant`, if exactly the marked signatures are valid. None if the decision is no: so also if a
-    /// listed signature has no mark at its place.
+    /// listed signature has no mark at its index.
     ///
     /// # Errors
     ///
@@ -84,7 +84,7 @@ impl<'a> PreparedQuestion<'a> {
     }
 
     /// Decides the question, if exactly the marked signatures are valid. So the answer is no unless each signature that `signed` lists
-    /// has a mark at its place.
+    /// has a mark at its index.
     ///
     /// # Errors
     ///
@@ -141,8 +141,8 @@ impl<'a> PreparedQuestion<'a> {
         match first_refused(alloc, &self.examined.signed, verifier)? {
             // `Brand` and `Blank` are for a count of operations (ticks), which only contracts see and which costs no time: see `spki_tag::Ticks`.
             None => self.explained_with_new_count::<Brand>(alloc, Blank::new(1)),
-            Some(place) => Ok(Explanation::Evidence {
-                item: self.examined.signed[place].item,
+            Some(index) => Ok(Explanation::Evidence {
+                item: self.examined.signed[index].item,
                 stop: Stop::NotAccepted,
             }),
         }
@@ -182,8 +182,8 @@ impl<'a> PreparedQuestion<'a> {
         match first_refused(alloc, &self.examined.signed, verifier)? {
             // `Brand` and `Blank` are for a count of operations (ticks), which only contracts see and which costs no time: see `spki_tag::Ticks`.
             None => self.reduced_with_new_count::<Brand>(alloc, Blank::new(1)),
-            Some(place) => Ok(Reduction::Evidence {
-                item: self.examined.signed[place].item,
+            Some(index) => Ok(Reduction::Evidence {
+                item: self.examined.signed[index].item,
                 stop: Stop::NotAccepted,
             }),
         }

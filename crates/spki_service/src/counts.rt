@@ -44,11 +44,11 @@ pub(crate) fn check_counts(
     Ok(())
 }
 
-/// Whether more than `most` of the items of a sequence are certificates, definitions of names too.
-fn has_more_certificates(items: &[SeqItem], most: usize) -> bool
-    ensures { IsTrue result ↔ (most < certificates_in items.now) }
+/// Whether more than `max_count` of the items of a sequence are certificates, definitions of names too.
+fn has_more_certificates(items: &[SeqItem], max_count: usize) -> bool
+    ensures { IsTrue result ↔ (max_count < certificates_in items.now) }
 {
-    let mut left = most;
+    let mut left = max_count;
     for item in items {
         match left.checked_sub(certificate_count(item)) {
             None => return true,
@@ -71,44 +71,44 @@ fn certificate_count(item: &SeqItem) -> usize
     }
 }
 
-/// Whether the value of a request's text has more than `most` strings. Err is `Form` if the text has no value within the limits of its
+/// Whether the value of a request's text has more than `max_count` strings. Err is `Form` if the text has no value within the limits of its
 /// form, which does not happen for a question that was read, or `Memory`.
-fn has_more_strings(alloc: Global, text: &CanonicalText, most: usize) -> Result<bool, AskFault>
-    ensures tells { IfOk result (λ has_more. OfText text.now (TellsStrings most has_more)) }
+fn has_more_strings(alloc: Global, text: &CanonicalText, max_count: usize) -> Result<bool, AskFault>
+    ensures tells { IfOk result (λ has_more. OfText text.now (TellsStrings max_count has_more)) }
     ensures refused { IfErr result (λ fault. fault ≢ AskFault.Memory → NamesForm Part.Request text.now fault) }
 {
     let text = opened(alloc, Part::Request, text)?;
-    Ok(node_has_more_strings(&text.top(), most))
+    Ok(node_has_more_strings(&text.top(), max_count))
 }
 
-/// Whether a value has more than `most` strings, in lists of lists too. A display hint does not count.
-fn node_has_more_strings(node: &Node, most: usize) -> bool
-    ensures { TellsStrings most result node.now }
+/// Whether a value has more than `max_count` strings, in lists of lists too. A display hint does not count.
+fn node_has_more_strings(node: &Node, max_count: usize) -> bool
+    ensures { TellsStrings max_count result node.now }
 {
-    match subtract_strings(most, node) {
+    match subtract_strings(max_count, node) {
         None => true,
         Some(_) => false,
     }
 }
 
-/// Subtracts the number of strings in a value, at any depth, from `room`, which is how many may still come. None if the value has more. `node`
+/// Subtracts the number of strings in a value, at any depth, from `remaining`, which is how many may still come. None if the value has more. `node`
 /// is the value: a string, or a list.
 #[cycle(subtract_strings)]
-fn subtract_strings(room: usize, node: &Node) -> Option<usize>
-    ensures { MatchOption result (room < strings_in node.now) (λ left. left + strings_in node.now ≡ room) }
+fn subtract_strings(remaining: usize, node: &Node) -> Option<usize>
+    ensures { MatchOption result (remaining < strings_in node.now) (λ left. left + strings_in node.now ≡ remaining) }
 {
     match node.kind() {
-        NodeKind::String { .. } => room.checked_sub(1),
-        NodeKind::List(members) => subtract_member_strings(room, members),
+        NodeKind::String { .. } => remaining.checked_sub(1),
+        NodeKind::List(members) => subtract_member_strings(remaining, members),
     }
 }
 
-/// Subtracts the number of strings in all members of a list from `room`, which is how many may still come. None if they have more.
+/// Subtracts the number of strings in all members of a list from `remaining`, which is how many may still come. None if they have more.
 #[cycle(subtract_strings)]
-fn subtract_member_strings(room: usize, members: Members) -> Option<usize>
-    ensures { MatchOption result (room < strings_all (values members.entry)) (λ left. left + strings_all (values members.entry) ≡ room) }
+fn subtract_member_strings(remaining: usize, members: Members) -> Option<usize>
+    ensures { MatchOption result (remaining < strings_all (values members.entry)) (λ left. left + strings_all (values members.entry) ≡ remaining) }
 {
-    let mut left = room;
+    let mut left = remaining;
     let mut rest = members;
     while let Some((first, others)) = rest.split_first() {
         left = subtract_strings(left, &first)?;

@@ -42,28 +42,28 @@ fn seconds_of(day: i32, clock: u32) -> i64
     day as i64 * 86_400 + clock as i64
 }
 
-/// The seconds since midnight of a time of day, whose octets `HH:MM:SS` begin at the offset `place`. A second 60, a leap second, counts as 59.
-fn clock_at(octets: &[u8], place: usize) -> u32
-    requires within { place + 7 < length octets.now }
-    requires hour { IsNumberUpto octets.now place 23 }
-    requires minute { IsNumberUpto octets.now (place + 3) 59 }
-    requires second { IsNumberUpto octets.now (place + 6) 60 }
-    ensures value { result ≡ clock_at octets.now place }
+/// The seconds since midnight of a time of day, whose octets `HH:MM:SS` begin at `offset`. A second 60, a leap second, counts as 59.
+fn clock_at(octets: &[u8], offset: usize) -> u32
+    requires within { offset + 7 < length octets.now }
+    requires hour { IsNumberUpto octets.now offset 23 }
+    requires minute { IsNumberUpto octets.now (offset + 3) 59 }
+    requires second { IsNumberUpto octets.now (offset + 6) 60 }
+    ensures value { result ≡ clock_at octets.now offset }
     ensures below { result < 86400 }
 {
-    let (hour, minute) = (number_at(octets, place), number_at(octets, place + 3));
-    let second = number_at(octets, place + 6);
+    let (hour, minute) = (number_at(octets, offset), number_at(octets, offset + 3));
+    let second = number_at(octets, offset + 6);
     let whole = if second < 60 { second } else { 59 };
     hour as u32 * 3_600 + minute as u32 * 60 + whole as u32
 }
 
-/// The number whose two ASCII digits are at the offsets `place` and `place + 1`.
-fn number_at(octets: &[u8], place: usize) -> u8
-    requires within { place + 1 < length octets.now }
-    requires digits { IsNumberUpto octets.now place 99 }
-    ensures { result ≡ number_at octets.now place }
+/// The number whose two ASCII digits are at `offset` and `offset + 1`.
+fn number_at(octets: &[u8], offset: usize) -> u8
+    requires within { offset + 1 < length octets.now }
+    requires digits { IsNumberUpto octets.now offset 99 }
+    ensures { result ≡ number_at octets.now offset }
 {
-    10 * (octets[place] - b'0') + (octets[place + 1] - b'0')
+    10 * (octets[offset] - b'0') + (octets[offset + 1] - b'0')
 }
 
 /// The date of a number of seconds since 1970-01-01 00:00:00 UTC. None if it is negative, as of a clock that failed, or the year is after 9999

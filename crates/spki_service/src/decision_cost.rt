@@ -79,7 +79,7 @@ impl<'a> PreparedQuestion<'a> {
     }
 
     /// What is granted if all listed signatures are valid, as by `granted`. None if a certificate fails another test, or no entry grants the
-    /// request. Err if memory ran out. The bound on the ticks (operations that contracts count) leaves room for one for each listed
+    /// request. Err if memory ran out. The bound on the ticks (operations that contracts count) allows one more for each listed
     /// signature, which `grant_by_counted` counts before it calls this function.
     fn granted_counted<L: Ledger>(
         &self,
@@ -147,7 +147,7 @@ impl<'a> PreparedQuestion<'a> {
         ensures each { IfNone result (ticks.old + length (asked self.now.case) ≤ ticks.new) }
     {
         let signed: &Vec<Signed<'a>> = &self.examined.signed;
-        let place = first_unmarked_counted(signed.len(), &self.marks, ticks)?;
-        signed.get(place)
+        let index = first_unmarked_counted(signed.len(), &self.marks, ticks)?;
+        signed.get(index)
     }
 }

@@ -284,17 +284,17 @@ fn fold_texts_counted<'a, L: Ledger, S: FoldSink<'a>>(
         ⊎ HasMuchWork (with_entries (model case.now) es) (tuples_of steps.now) }
     // `uncounted` is the size up to which a chain takes no work. If it is 0, the work of all entries is within the limit, also if they are refused.
     ensures cost { case.now.uncounted ≡ 0
-        → ticks.new ≤ ticks.old + 4 * case.now.most_work + all_octets texts.entry.now + 2 * length texts.entry.now }
+        → ticks.new ≤ ticks.old + 4 * case.now.max_work + all_octets texts.entry.now + 2 * length texts.entry.now }
     ensures each { OnOk result (ticks.old + all_octets texts.entry.now + length texts.entry.now ≤ ticks.new) }
 {
     let shown = certificates_of(alloc, &case.sequence)?;
     let mut budget = Budget::of(case, steps);
-    for place in 0..texts.len() {
-        let entry = entry_counted(alloc, texts.text(place), ticks)?;
+    for index in 0..texts.len() {
+        let entry = entry_counted(alloc, texts.text(index), ticks)?;
         let folded = entry_fold_counted(alloc, case, &entry, &shown, steps, &mut budget, ticks);
         drop(entry);
         let fold = folded?;
-        sink.put(alloc, place + 1, fold)?;
+        sink.put(alloc, index + 1, fold)?;
     }
     Ok(())
 }

@@ -101,7 +101,7 @@ impl Guard {
 
     /// The guard's limit on the answer: the most octets that all lines of an explanation, or of a reduction, may have together. A decision
     /// has no such limit.
-    pub(crate) fn most_answer(&self) -> usize
+    pub(crate) fn max_answer(&self) -> usize
         ensures { result ≡ self.now.answer }
     {
         self.limits.answer
@@ -143,8 +143,8 @@ impl Guard {
         ensures asked { (q : Question) → IsTextsOf q texts.entry.now → IfOk result (λ a. IsAskedCase q a.case) }
         ensures entries { IfOk result (λ a. a.texts ≡ self.entry.now.texts) }
         ensures policy { IfOk result (λ a. a.case.policy ≡ self.entry.now.policy) }
-        ensures nodes { IfOk result (λ a. a.case.most_nodes ≡ self.entry.now.nodes) }
-        ensures work { IfOk result (λ a. a.case.most_work ≡ self.entry.now.work) }
+        ensures nodes { IfOk result (λ a. a.case.max_nodes ≡ self.entry.now.nodes) }
+        ensures work { IfOk result (λ a. a.case.max_work ≡ self.entry.now.work) }
         ensures counted_all { IfOk result (λ a. a.case.uncounted ≡ 0) }
         ensures answer { IfOk result (λ a. a.answer ≡ self.entry.now.answer) }
         ensures too_long { (q : Question) → IsTextsOf q texts.entry.now

@@ -3,7 +3,7 @@
 ghost use Rattle.std.specs.{Prelude.{◌≡◌, [], List, ℕ, Some, map, slice_index_or, IfOk, if◌then◌else◌}, List.{filter}, Str.{bytes_eq}};
 ghost use Rattle.spki_cert.specs.{declared.entry.Entry.{Entry}, Naming.{names, admits, digest_of}};
 ghost use Rattle.spki_service.specs.AccessLists.{numbers_from, rows_from, is_by, is_principal, octets_of, row_octets, row_number, row_key, key_order, tail_of, numbers_with, owners_of, rows_by, IsIndexOf, IsInOrder};
-ghost use Rattle.spki_tag.specs.Places.{merge};
+ghost use Rattle.spki_tag.specs.Positions.{merge};
 
 use crate::text_list::TextList;
 use spki_cert::{Algorithms, HashAlg, Key, Policy, Principal};
@@ -230,11 +230,11 @@ fn rows_of(
     ensures { IfOk result (λ rows. rows.items ≡ rows_from 1 alg owners.now) }
 {
     let mut rows = Vec::new(alloc);
-    for (place, owner) in owners.iter().enumerate() {
+    for (index, owner) in owners.iter().enumerate() {
         if is_by(owner, alg) {
             rows.push(Row {
                 tail: tail_of(octets_of(owner)),
-                number: place + 1,
+                number: index + 1,
             })?;
         }
     }
@@ -263,7 +263,7 @@ fn compare(principals: &TextList, row: &Row, tail: u64, octets: &[u8]) -> Orderi
     }
 }
 
-/// The octets of a row's principal. `principals` must have those of all entries, in their order: entry number n is at place n - 1. No row
+/// The octets of a row's principal. `principals` must have those of all entries, in their order: entry number n is at index n - 1. No row
 /// has the number 0, and `saturating_sub` needs no contract that says so.
 fn row_octets<'p>(principals: &'p TextList, row: &Row) -> &'p [u8]
     ensures { result.now ≡ row_octets principals.now row.now }

@@ -34,7 +34,7 @@ pub fn one_list()
 /// `TooLong` and `Memory`, are not meant here.
 pub fn one_asking()
     ensures case { (q : Question) (c d : Case) → IsAskedCase q c → IsAskedCase q d → c.policy ≡ d.policy
-        → c.most_nodes ≡ d.most_nodes → c.most_work ≡ d.most_work → c.uncounted ≡ d.uncounted → c ≡ d }
+        → c.max_nodes ≡ d.max_nodes → c.max_work ≡ d.max_work → c.uncounted ≡ d.uncounted → c ≡ d }
     ensures unrefused { (q : Question) (c : Case) (fault : AskFault) → IsAskedCase q c → ¬ IsNotAsked q fault }
     ensures fault { (q : Question) (f g : AskFault) → IsNotAsked q f → IsNotAsked q g → f ≡ g }
 {}
@@ -71,14 +71,14 @@ pub fn one_marked_answer()
         → x ≢ Err Memory → y ≢ Err Memory → ReducesMarked a x → ReducesMarked a y → AreSame IsSameReduction x y }
 {}
 
-/// A mark says that the signature at its place in a list is valid. If exactly the signatures that a verifier accepts have a mark,
+/// A mark says that the signature at its index in a list is valid. If exactly the signatures that a verifier accepts have a mark,
 /// `PreparedQuestion::decide_by`, which decides by the marks, decides as `PreparedQuestion::decide` does by the verifier.
 pub fn marked_as_verified<V: Verifier>()
     ensures { (verifier : V) (a : PreparedModel) (d : Decision) → MarksTell (V.accepted verifier) (asked a.case) a.marks
         → DecidesMarked a d → Decides (V.accepted verifier) a d }
 {}
 
-/// A mark says that the signature at its place in a list is valid. If the decision by marks is yes, each listed signature has a mark. So if one
+/// A mark says that the signature at its index in a list is valid. If the decision by marks is yes, each listed signature has a mark. So if one
 /// of them has no mark, the decision is no.
 pub fn all_marked()
     ensures yes { (a : PreparedModel) (n : ℕ) → DecidesMarked a (Yes n) → AllMarked (asked a.case) a.marks }
@@ -93,7 +93,7 @@ pub fn possible()
 
 /// A guard's decision by marks can be repeated by the command `check`. An auditor composes the case of the guard's entries and policy and the
 /// question's parts. Its accepted list has a row (key, digest and value) for each marked signature, and no other row. By a row `check` accepts each
-/// signature with these three, also at another place of the sequence. So signatures that are equal in them must be marked alike. Then, unless it
+/// signature with these three, also at another index of the sequence. So signatures that are equal in them must be marked alike. Then, unless it
 /// refuses the case, `check` answers the same.
 pub fn as_check()
     ensures { (a : PreparedModel) (es : List Entry) (c : Case) (x y : Decision) → AreEntries a.texts es → IsCaseOfParts a es c
@@ -104,7 +104,7 @@ pub fn as_check()
 /// Marking a signature does not change which question was opened. If `old` was opened for the question `q` and the guard `held`, so was
 /// `new`, which is `old` after the mark.
 pub fn marked_stays()
-    ensures { (held : GuardModel) (q : Question) (old new : OwnedQuestion) (place : ℕ) → HasMark old place new → IsOpened held q old → IsOpened held q new }
+    ensures { (held : GuardModel) (q : Question) (old new : OwnedQuestion) (index : ℕ) → HasMark old index new → IsOpened held q old → IsOpened held q new }
 {}
 
 /// A grant holds until its date, `until`. If a question is granted by its marks, the same question with the same marks is granted at each later

@@ -1,4 +1,4 @@
-//! Marks by which a service says which of the listed signatures are valid: a bool for each place in the list, true where there is a mark.
+//! Marks by which a service says which of the listed signatures are valid: a bool for each of them in order, true where there is a mark.
 
 ghost use Rattle.std.specs.Prelude.{◌≡◌, ◌↔◌, ◌<◌, ◌≤◌, ◌+◌, length, false, IsTrue, IfOk, IfNone};
 ghost use Rattle.spki_service.specs.GuardQuestions.{IsMarked, NoneMarked, IsMarkedToo, IsFirstUnmarked};
@@ -8,7 +8,7 @@ use std::alloc::{AllocError, Global};
 use std::marker::Brand;
 use std::sync::ledger::{Blank, Ledger};
 
-/// Returns `count` places for marks, one for each listed signature, without any mark. Err if memory ran out.
+/// Returns `count` bools for marks, one for each listed signature, without any mark. Err if memory ran out.
 pub(crate) fn no_marks(alloc: Global, count: usize) -> Result<Vec<bool>, AllocError>
     ensures counted { IfOk result (λ marks. length marks.items ≡ count) }
     ensures none { IfOk result (λ marks. NoneMarked marks.items) }
@@ -16,20 +16,20 @@ pub(crate) fn no_marks(alloc: Global, count: usize) -> Result<Vec<bool>, AllocEr
     Ok(vec![in alloc; false; count]?)
 }
 
-/// Marks a place, counted from 0. Returns false, and changes nothing, if there is no such place.
-pub(crate) fn mark_at(marks: &mut [bool], place: usize) -> bool
-    ensures there { IsTrue result ↔ (place < length marks.old) }
-    ensures marked { IsTrue result → IsMarkedToo marks.old place marks.new }
+/// Sets the mark at this index, from 0. Returns false, and changes nothing, if there is no such index.
+pub(crate) fn mark_at(marks: &mut [bool], index: usize) -> bool
+    ensures there { IsTrue result ↔ (index < length marks.old) }
+    ensures marked { IsTrue result → IsMarkedToo marks.old index marks.new }
     ensures same { result ≡ false → marks.new ≡ marks.old }
 {
-    if place >= marks.len() {
+    if index >= marks.len() {
         return false;
     }
-    marks[place] = true;
+    marks[index] = true;
     true
 }
 
-/// The first place, from 0 and below `count`, without a mark. None if each of these places has one. `count` is the number of listed
+/// The first index, from 0 and below `count`, without a mark. None if each of these indices has one. `count` is the number of listed
 /// signatures.
 pub(crate) fn first_unmarked(count: usize, marks: &[bool]) -> Option<usize>
     ensures { IsFirstUnmarked count marks.now result }
@@ -38,9 +38,9 @@ pub(crate) fn first_unmarked(count: usize, marks: &[bool]) -> Option<usize>
     first_unmarked_with_new_count::<Brand>(count, marks, Blank::new(1))
 }
 
-/// Does the work of `first_unmarked`, for `count` places: calls `first_unmarked_counted` with a new count of ticks (operations that contracts count).
-/// The new count exists only in contracts, and is dropped afterwards. `blank` is a new ledger of the toolchain, to keep it in, and must be that of
-/// `L`. `L` has a name only in a generic function, such as this one: its caller writes `Brand` for it.
+/// Does the work of `first_unmarked`, for `count` indices: calls `first_unmarked_counted` with a new count of ticks (operations that contracts
+/// count). The new count exists only in contracts, and is dropped afterwards. `blank` is a new ledger of the toolchain, to keep it in, and must be
+/// that of `L`. `L` has a name only in a generic function, such as this one: its caller writes `Brand` for it.
 fn first_unmarked_with_new_count<L: Ledger>(
     count: usize,
     marks: &[bool],
@@ -54,7 +54,7 @@ fn first_unmarked_with_new_count<L: Ledger>(
     first_unmarked_counted(count, marks, &mut Ticks::<L>::new(blank))
 }
 
-/// The first place, from 0 and below `count`, without a mark, as `first_unmarked`. None if each of these places has one. Each place that is
+/// The first index, from 0 and below `count`, without a mark, as `first_unmarked`. None if each of these indices has one. Each index that is
 /// looked at adds 1 to `ticks`, a count that exists only in contracts.
 pub(crate) fn first_unmarked_counted<L: Ledger>(
     count: usize,
@@ -65,20 +65,20 @@ pub(crate) fn first_unmarked_counted<L: Ledger>(
     ensures cost { ticks.new ≤ ticks.old + count }
     ensures each { IfNone result (ticks.old + count ≤ ticks.new) }
 {
-    for place in 0..count {
+    for index in 0..count {
         ticks.tick();
-        if !is_marked(marks, place) {
-            return Some(place);
+        if !is_marked(marks, index) {
+            return Some(index);
         }
     }
     None
 }
 
-/// Whether a place, from 0, has a mark. False if there is no such place.
-fn is_marked(marks: &[bool], place: usize) -> bool
-    ensures { IsTrue result ↔ IsMarked marks.now place }
+/// Whether there is a mark at this index, from 0. False if there is no such index.
+fn is_marked(marks: &[bool], index: usize) -> bool
+    ensures { IsTrue result ↔ IsMarked marks.now index }
 {
-    match marks.get(place) {
+    match marks.get(index) {
         None => false,
         Some(mark) => *mark,
     }

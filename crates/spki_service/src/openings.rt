@@ -72,18 +72,18 @@ impl OwnedQuestion {
         self.signed.as_slice()
     }
 
-    /// Marks the signature that `signed` lists at this place, from 0, as valid, as `PreparedQuestion::mark` does. Returns false, and changes
-    /// nothing, if no signature is listed there. The place is tested before `marks` is borrowed, so the prover sees that nothing changes then;
+    /// Marks the signature that `signed` lists at this index, from 0, as valid, as `PreparedQuestion::mark` does. Returns false, and changes
+    /// nothing, if no signature is listed there. The index is tested before `marks` is borrowed, so the prover sees that nothing changes then;
     /// `mark_at` makes the same test again.
-    pub fn mark(&mut self, place: usize) -> bool
-        ensures listed { IsTrue result ↔ (place < length self.old.marks.items) }
-        ensures marked { IsTrue result → HasMark self.old place self.new }
+    pub fn mark(&mut self, index: usize) -> bool
+        ensures listed { IsTrue result ↔ (index < length self.old.marks.items) }
+        ensures marked { IsTrue result → HasMark self.old index self.new }
         ensures same { result ≡ false → self.new ≡ self.old }
     {
-        if place >= self.marks.len() {
+        if index >= self.marks.len() {
             return false;
         }
-        mark_at(&mut self.marks, place)
+        mark_at(&mut self.marks, index)
     }
 
     /// What is granted if exactly the marked signatures are valid, as by `PreparedQuestion::grant_by`: what `open` has found to be granted if all

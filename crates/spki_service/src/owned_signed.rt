@@ -60,7 +60,7 @@ impl OwnedSigned {
 }
 
 /// Returns copies of the signatures, which borrow nothing. For n signatures by k keys this takes n binary searches among k
-/// places at most, and the place of each new key is inserted among them, which moves up to k places.
+/// indices at most, and the index of each new key is inserted among them, which moves up to k indices.
 ///
 /// # Errors
 ///
@@ -91,7 +91,7 @@ fn owned_one(alloc: Global, one: &Signed, key: Arc<Vec<u8>>) -> Result<OwnedSign
 }
 
 /// Returns the octets of a key: those that a signature of `owned` has already, or otherwise a copy. `order` lists for
-/// each key the place in `owned`, from 0, of the first signature by it, sorted by the keys' octets. The place of a new key is
+/// each key the index in `owned`, from 0, of the first signature by it, sorted by the keys' octets. The index of a new key is
 /// added: the end of `owned`, where the caller then puts the signature. Err if memory ran out, or if the key has too many owners to count.
 fn shared_key(
     alloc: Global,
@@ -104,23 +104,23 @@ fn shared_key(
     let octets = key.as_slice();
     match found_key(owned, order.as_slice(), octets) {
         Ok(key) => Arc::try_clone(key),
-        Err(place) => {
-            order.insert(place, owned.len())?;
+        Err(index) => {
+            order.insert(index, owned.len())?;
             new_key(alloc, octets)
         }
     }
 }
 
 /// The key with these octets, if a signature of `owned` has it, by a binary search. Otherwise Err is the index in `order`, from 0, at which the
-/// place of a signature by this key must be inserted. `order` has for each key the place in `owned`, from 0, of the first signature by it, sorted
-/// by the keys' octets. Each of its numbers is a place in `owned`, so the `else` is not reached.
+/// index of a signature by this key must be inserted. `order` has for each key the index in `owned`, from 0, of the first signature by it, sorted
+/// by the keys' octets. Each of its numbers is an index in `owned`, so the `else` is not reached.
 fn found_key<'o>(
     owned: &'o [OwnedSigned],
     order: &[usize],
     octets: &[u8],
 ) -> Result<&'o Arc<Vec<u8>>, usize>
     ensures found { IfOk result (λ key. key.now.value.items ≡ octets.now) }
-    ensures place { IfErr result (λ place. place ≤ length order.now) }
+    ensures index { IfErr result (λ index. index ≤ length order.now) }
 {
     let mut low = 0;
     let mut high = order.len();

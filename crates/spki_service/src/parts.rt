@@ -40,8 +40,8 @@ pub(crate) fn case_of<'a>(
 ) -> Result<Case<'a>, AskFault>
     ensures asked { (q : Question) → IsTextsOf q texts.entry.now → IfOk result (λ c. IsAskedCase q (model c)) }
     ensures policy { IfOk result (λ c. c.policy ≡ policy) }
-    ensures nodes { IfOk result (λ c. c.most_nodes ≡ limits.nodes) }
-    ensures work { IfOk result (λ c. c.most_work ≡ limits.work) }
+    ensures nodes { IfOk result (λ c. c.max_nodes ≡ limits.nodes) }
+    ensures work { IfOk result (λ c. c.max_work ≡ limits.work) }
     ensures counted { IfOk result (λ c. c.uncounted ≡ 0) }
     ensures refused { (q : Question) → IsTextsOf q texts.entry.now
         → IfErr result (λ fault. fault ≢ AskFault.Memory → IsNotAsked q fault) }

@@ -28,21 +28,21 @@ pub struct PreparedQuestion<'a> {
 impl<'a> PreparedQuestion<'a> {
     /// The guard's limit on the answer: the most octets that all lines of an explanation, or of a reduction, may have together. `explain`
     /// and `reduce` do not test it: the code that prints their answers must.
-    pub fn most_answer(&self) -> usize
+    pub fn max_answer(&self) -> usize
         ensures { result ≡ self.now.answer }
     {
-        self.guard.most_answer()
+        self.guard.max_answer()
     }
 
-    /// Marks the signature that `signed` lists at this place, from 0, as valid. The mark is for this place alone, also if the same signature is
+    /// Marks the signature that `signed` lists at this index, from 0, as valid. The mark is for this index alone, also if the same signature is
     /// listed twice. It cannot be removed. Returns false, and changes nothing, if no signature is listed there.
-    pub fn mark(&mut self, place: usize) -> bool
-        ensures listed { IsTrue result ↔ (place < length self.old.marks) }
-        ensures marked { IsTrue result → IsMarkedToo self.old.marks place self.new.marks }
+    pub fn mark(&mut self, index: usize) -> bool
+        ensures listed { IsTrue result ↔ (index < length self.old.marks) }
+        ensures marked { IsTrue result → IsMarkedToo self.old.marks index self.new.marks }
         ensures others { self.new ≡ record self.old { marks = self.new.marks } }
         ensures same { result ≡ false → self.new ≡ self.old }
     {
-        mark_at(&mut self.marks, place)
+        mark_at(&mut self.marks, index)
     }
 
     /// The first listed signature without a mark, which would say that it is valid. None if each has one. This is for `reduce_into`, which has
@@ -52,8 +52,8 @@ impl<'a> PreparedQuestion<'a> {
             (λ one. IsUnmarked (asked self.now.case) self.now.marks (signed_of one.now)) }
     {
         let signed: &Vec<Signed<'a>> = &self.examined.signed;
-        let place = first_unmarked(signed.len(), &self.marks)?;
-        signed.get(place)
+        let index = first_unmarked(signed.len(), &self.marks)?;
+        signed.get(index)
     }
 }
 

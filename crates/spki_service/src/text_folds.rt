@@ -44,12 +44,12 @@ pub(crate) fn fold_texts<'a, S: FoldSink<'a>>(
 {
     let shown = certificates_of(alloc, &case.sequence)?;
     let mut budget = Budget::of(case, steps);
-    for place in 0..texts.len() {
-        let entry = entry_in(alloc, texts.text(place))?;
+    for index in 0..texts.len() {
+        let entry = entry_in(alloc, texts.text(index))?;
         let folded = entry_fold(alloc, case, &entry, &shown, steps, &mut budget);
         drop(entry);
         let fold = folded?;
-        sink.put(alloc, place + 1, fold)?;
+        sink.put(alloc, index + 1, fold)?;
     }
     Ok(())
 }

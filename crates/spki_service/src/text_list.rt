@@ -7,7 +7,7 @@ use std::marker::Model;
 
 /// Where a text is in a buffer. Both offsets are in octets, from 0.
 #[derive(Clone, Copy)]
-struct Place {
+struct Span {
     /// The offset of its first octet.
     start: usize,
     /// The offset behind its last octet.
@@ -22,7 +22,7 @@ pub(crate) struct TextList {
     /// The octets of all texts, and of those that were removed.
     octets: Vec<u8>,
     /// For each text where it is in `octets`.
-    places: Vec<Place>,
+    spans: Vec<Span>,
 }
 
 impl Model for TextList {
@@ -31,9 +31,9 @@ impl Model for TextList {
 
     ghost Value = { List (List ℕ) };
 
-    ghost view = { λ t. map (text_at t.octets.items) t.places.items };
+    ghost view = { λ t. map (text_at t.octets.items) t.spans.items };
 
-    ghost invariant = { λ t. AreWithin (length t.octets.items) t.places.items };
+    ghost invariant = { λ t. AreWithin (length t.octets.items) t.spans.items };
 }
 
 impl TextList {
@@ -43,7 +43,7 @@ impl TextList {
     {
         TextList {
             octets: Vec::new(alloc),
-            places: Vec::new(alloc),
+            spans: Vec::new(alloc),
         }
     }
 
@@ -54,7 +54,7 @@ impl TextList {
         let start = self.octets.len();
         self.octets.extend_from_slice(text)?;
         let end = self.octets.len();
-        self.places.push(Place { start, end })?;
+        self.spans.push(Span { start, end })?;
         Ok(())
     }
 
@@ -63,8 +63,8 @@ impl TextList {
     pub(crate) fn remove_first(&mut self)
         ensures { self.new ≡ drop 1 self.old }
     {
-        if !self.places.is_empty() {
-            self.places.remove(0);
+        if !self.spans.is_empty() {
+            self.spans.remove(0);
         }
     }
 
@@ -72,14 +72,14 @@ impl TextList {
     pub(crate) fn len(&self) -> usize
         ensures { result ≡ length self.now }
     {
-        self.places.len()
+        self.spans.len()
     }
 
-    /// The text at a place, counted from 0. No octets if the list has no such place.
-    pub(crate) fn text(&self, place: usize) -> &[u8]
-        ensures { result.now ≡ slice_index_or self.now place [] }
+    /// The text at an index, counted from 0. No octets if the list has no such index.
+    pub(crate) fn text(&self, index: usize) -> &[u8]
+        ensures { result.now ≡ slice_index_or self.now index [] }
     {
-        match self.places.get(place) {
+        match self.spans.get(index) {
             Some(at) => &self.octets[at.start..at.end],
             None => &[],
         }

@@ -40,18 +40,18 @@ pub struct Texts<'q> {
 ///
 /// # Errors
 ///
-/// `TooLong` exactly if the four texts together have more than `most_octets` octets. This is tested before any of them is read. Strings
+/// `TooLong` exactly if the four texts together have more than `max_octets` octets. This is tested before any of them is read. Strings
 /// count as the canonical form of their value, and seconds as that of a date. `Memory` if memory ran out.
 pub(crate) fn texts_of<'q>(
     alloc: Global,
     question: &Question<'q>,
-    most_octets: usize,
+    max_octets: usize,
 ) -> Result<Texts<'q>, AskFault>
     ensures texts { IfOk result (IsTextsOf question.now) }
-    ensures too_long { IsErrOf result AskFault.TooLong ↔ (most_octets < asked_octets question.now) }
+    ensures too_long { IsErrOf result AskFault.TooLong ↔ (max_octets < asked_octets question.now) }
     ensures only { IfErr result (λ fault. (fault ≡ AskFault.TooLong) ⊎ (fault ≡ AskFault.Memory)) }
 {
-    let Some(octets) = octets_within(question, most_octets) else {
+    let Some(octets) = octets_within(question, max_octets) else {
         return Err(AskFault::TooLong);
     };
     Ok(Texts {

@@ -128,7 +128,7 @@ becomes-tried : (normal (set (tags (a ∷ inner ∷ d ∷ []))) ≡ set (tags (a
     -- from the inside out: the inner sets are one member, and then the outer one is
     × (normal (set (tags (set (tags (set (tags (a ∷ [])) ∷ [])) ∷ nothing ∷ []))) ≡ a)
     × (normal (list (codes "x") (tags (a ∷ nothing ∷ b ∷ []))) ≡ nothing)
-    -- a list that is (* set) has no place in a set
+    -- a list that is (* set) is dropped from a set
     × (normal (set (tags (a ∷ list (codes "x") (tags (nothing ∷ [])) ∷ b ∷ []))) ≡ set (tags (a ∷ b ∷ [])))
     -- repeated members stay, in their order
     × (normal (set (tags (b ∷ a ∷ inner ∷ a ∷ []))) ≡ set (tags (b ∷ a ∷ b ∷ c ∷ a ∷ [])))

@@ -6,7 +6,7 @@ use Rattle.sexpr_core.specs.Value.{Value, Values, plain, members}
 use Rattle.spki_tag.specs.declared.fault.TagFault.{TagFault}
 use Rattle.spki_tag.specs.Tag.{Tag, Tags, Limit, Ordering, alpha, range, list, set, none, more, IsTag, AreTags, tag_value, tag_values, ordering_name, low_values, up_values, nodes, nodes_all}
 use Rattle.spki_tag.specs.{Faults.{first_fault, tags_in, tags_in_all, own_fault, star_fault, range_fault, limits_fault, looks}, Request.{IsHead}}
-use Rattle.spki_tag.specs.Reading.{most_read}
+use Rattle.spki_tag.specs.Reading.{max_read}
 use Rattle.sexpr_core.specs.Value as value
 use Rattle.spki_tag.specs.declared.fault.TagFault.TheVariants as faults
 
@@ -32,19 +32,19 @@ looks-append n (u ∷ us) vs = search (rules, nat_lt, looks-append (n + 1) us vs
 abbrev pub IsFine : Value → Type 0
 IsFine v = own_fault v ≡ None
 
-pub look-past : (n : ℕ) (v : Value) (vs : List Value) → n < most_read → own_fault v ≡ None
+pub look-past : (n : ℕ) (v : Value) (vs : List Value) → n < max_read → own_fault v ≡ None
     → first_fault (looks n (v ∷ vs)) ≡ first_fault (looks (n + 1) vs)
 look-past n v vs h e = search (rules, lt-ltb)
 
-pub look-own : (n : ℕ) (v : Value) (vs : List Value) (fault : TagFault) → n < most_read → own_fault v ≡ Some fault
+pub look-own : (n : ℕ) (v : Value) (vs : List Value) (fault : TagFault) → n < max_read → own_fault v ≡ Some fault
     → first_fault (looks n (v ∷ vs)) ≡ Some fault
 look-own n v vs fault h e = search (rules, lt-ltb)
 
-pub look-full : (n : ℕ) (v : Value) (vs : List Value) → most_read ≤ n
+pub look-full : (n : ℕ) (v : Value) (vs : List Value) → max_read ≤ n
     → first_fault (looks n (v ∷ vs)) ≡ Some faults.TooManyNodes
 look-full n v vs h = search (rules, le-ltb)
 
-pub looks-fine : (n : ℕ) (vs : List Value) → n + length vs ≤ most_read → AllByRecursion IsFine vs
+pub looks-fine : (n : ℕ) (vs : List Value) → n + length vs ≤ max_read → AllByRecursion IsFine vs
     → first_fault (looks n vs) ≡ None
 looks-fine n [] h each = refl
 looks-fine n (v ∷ vs) h each = look-past n v vs (omega arith) each.0 ∙ looks-fine (n + 1) vs (omega arith) each.1
@@ -114,9 +114,9 @@ mutual
       omega (arith, length-append (tags_in (tag_value w)) (tags_in_all (tag_values ws)), tags_count w h.0, tags-count_all ws h.1)
 
 -- a tag with few enough nodes has no fault
-pub tag-past : (n : ℕ) (w : Tag) → IsTag w → n + nodes w ≤ most_read → first_fault (looks n (tags_in (tag_value w))) ≡ None
+pub tag-past : (n : ℕ) (w : Tag) → IsTag w → n + nodes w ≤ max_read → first_fault (looks n (tags_in (tag_value w))) ≡ None
 tag-past n w h few = search (rules, looks-fine, tags_count, tag-fine)
 
-pub tags-past : (n : ℕ) (ws : Tags) → AreTags ws → n + nodes_all ws ≤ most_read
+pub tags-past : (n : ℕ) (ws : Tags) → AreTags ws → n + nodes_all ws ≤ max_read
     → first_fault (looks n (tags_in_all (tag_values ws))) ≡ None
 tags-past n ws h few = search (rules, looks-fine, tags-count_all, tags-fine)

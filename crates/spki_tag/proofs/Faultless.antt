@@ -8,7 +8,7 @@ use Rattle.spki_tag.specs.Faults.{first_fault, unless, tags_in, tags_in_list, ta
 use Rattle.spki_tag.specs.declared.fault.TagFault.{TagFault}
 use Rattle.spki_tag.specs.Request.{Request, Requests, AreOctets, IsHead, IsRequest, AreRequests, request_value, request_values}
 use Rattle.spki_tag.specs.Tag.{Tag, Tags, star, string, prefix, range, list, set, none, more, IsTag, AreTags, tag_value, tag_values, starred, nodes}
-use Rattle.spki_tag.specs.Reading.{most_read, IsNoTag, IsNoRequest}
+use Rattle.spki_tag.specs.Reading.{max_read, IsNoTag, IsNoRequest}
 use Rattle.spki_tag.proofs.{FaultWalk.{IsFine, tags_count, tag-past}, Named.{ordering-of, limits-of}, RequestReading.{IsFinePart, request-faultless}}
 use Rattle.sexpr_core.specs.Value as value
 use Rattle.spki_tag.specs.declared.fault.TagFault.TheVariants as faults
@@ -24,17 +24,17 @@ unless-none : (b : Bool) (fault : TagFault) → unless b fault ≡ None → b �
 unless-none true fault e = refl
 unless-none false fault e = absurd cc
 
-room : (n : ℕ) → nat_lt n 1024 ≡ true → n + 1 ≤ most_read
-room n h = grind (arith, nat_tests)
+bound : (n : ℕ) → nat_lt n 1024 ≡ true → n + 1 ≤ max_read
+bound n h = grind (arith, nat_tests)
 
 -- each tag passes its test, and there are few enough of them
-looks-none : (n : ℕ) (vs : List Value) → n ≤ most_read → first_fault (looks n vs) ≡ None
-    → AllByRecursion IsFine vs × (n + length vs ≤ most_read)
+looks-none : (n : ℕ) (vs : List Value) → n ≤ max_read → first_fault (looks n vs) ≡ None
+    → AllByRecursion IsFine vs × (n + length vs ≤ max_read)
 looks-none n [] few e = (tt, omega arith)
 looks-none n (v ∷ vs) few e =
     let p = found-none (unless (nat_lt n 1024) faults.TooManyNodes) (own_fault v ∷ looks (n + 1) vs) e in
     let q = found-none (own_fault v) (looks (n + 1) vs) p.1 in
-    let rest = looks-none (n + 1) vs (room n (unless-none _ _ p.0)) q.1 in
+    let rest = looks-none (n + 1) vs (bound n (unless-none _ _ p.0)) q.1 in
     ((q.0, rest.0), omega (arith, rest.1))
 
 -- ---- the tag that a value is written as

@@ -6,7 +6,7 @@ pub mod Closure
 pub mod MeetSizes
 pub mod MeetSteps
 pub mod TagReading
-pub mod Places
+pub mod Positions
 pub mod MeetCosts
 pub mod RequestReading
 pub mod Exact

@@ -142,10 +142,10 @@ pub least_above_less : (front : List ℕ) (octet : ℕ) → octet < 255
 least_above_less [] octet h = search (rules, lt-ltb)
 least_above_less (first ∷ front) octet h = ap (above_from first) (least_above_less front octet h)
 
-pub least_above_most : (front : List ℕ) (octet : ℕ) → 255 ≤ octet
+pub least_above_greatest : (front : List ℕ) (octet : ℕ) → 255 ≤ octet
     → least_above (front ++ octet ∷ []) ≡ least_above front
-least_above_most [] octet h = ap (λ b. if b then Some ((octet + 1) ∷ []) else None) (le-ltb octet 255 h)
-least_above_most (first ∷ front) octet h = ap (above_from first) (least_above_most front octet h)
+least_above_greatest [] octet h = ap (λ b. if b then Some ((octet + 1) ∷ []) else None) (le-ltb octet 255 h)
+least_above_greatest (first ∷ front) octet h = ap (above_from first) (least_above_greatest front octet h)
 
 -- ---- prefixes as ranges
 

@@ -3,8 +3,8 @@ use Rattle.std.proofs.Common.{◌≡◌, ℕ, zero, suc, ◌+◌, ◌*◌, ◌<�
 use Rattle.std.proofs.lemmas.{Nat.{mul-le}, List.{drop_more, get_or_default}}
 use Rattle.std.specs.Prelude.{All}
 use Rattle.spki_tag.specs.Tag.{Tag, tags, star, range, list, set, is_set, nodes, nodes_all}
-use Rattle.spki_tag.specs.{Cost.{node_cost, node_costs, meet_cost}, Meet.{members, may_share, places_where, tags_at}}
-use Rattle.spki_tag.proofs.{MeetSizes.{nodes-some}, MeetSteps.{members_of, members-le, members-less, cut, tags-members}, Places.{at_places-le}}
+use Rattle.spki_tag.specs.{Cost.{node_cost, node_costs, meet_cost}, Meet.{members, may_share, positions_where, tags_at}}
+use Rattle.spki_tag.proofs.{MeetSizes.{nodes-some}, MeetSteps.{members_of, members-le, members-less, cut, tags-members}, Positions.{at_positions-le}}
 
 -- ---- pairs
 
@@ -13,7 +13,7 @@ pairs-less : (n cost rest costs before now at : ℕ) → now ≤ before + 3 * (n
     → before + 3 * ((n + rest) * (cost + costs)) ≤ at → now + 3 * (rest * costs) ≤ at
 pairs-less n cost rest costs before now at h k = omega arith
 
--- a step of the loop over the places of two lists
+-- a step of the loop over the positions of two lists
 pub each-step : (ts us : List Tag) (i : ℕ) (t u : Tag) (before now at : ℕ) → i < length ts → i < length us
     → t ≡ get_or ts i t → u ≡ get_or us i u → now ≤ before + 3 * meet_cost t u
     → before + 3 * (nodes_all (tags (drop i ts)) * node_costs (tags (drop i us))) ≤ at
@@ -28,13 +28,13 @@ each-step ts us i t u before now at h k e f c d =
 
 -- ---- rows
 
--- a step of the loop over places
-pub place-step : (one : Tag) (us : List Tag) (ps : List ℕ) (i : ℕ) (u : Tag) (before now at : ℕ) → i < length ps
+-- a step of the loop over positions
+pub position-step : (one : Tag) (us : List Tag) (ps : List ℕ) (i : ℕ) (u : Tag) (before now at : ℕ) → i < length ps
     → All (λ n. (1 ≤ n) × (n < 1 + length us)) ps → u ≡ get_or us (get_or ps i 0 - 1) u → now ≤ before + 3 * meet_cost one u
     → before + 3 * (nodes one * node_costs (tags (tags_at us (drop i ps)))) ≤ at
     → now + 3 * (nodes one * node_costs (tags (tags_at us (drop (i + 1) ps)))) ≤ at
-place-step one us ps i u before now at h places e c d =
-    let within = places i 0 h in
+position-step one us ps i u before now at h positions e c d =
+    let within = positions i 0 h in
     let here : get_or us (get_or ps i 0 - 1) star ≡ u =
     get_or_default us (get_or ps i 0 - 1) star u (omega (arith, within.0, within.1)) ∙ sym e in
     let all : before + 3 * (nodes one * node_costs (tags (u ∷ tags_at us (drop (i + 1) ps)))) ≤ at =
@@ -49,12 +49,12 @@ rows-less n rest some all before now at h k d =
 
 -- a step of the loop over the members of the first tag
 pub row-step : (ones others : List Tag) (i : ℕ) (one : Tag) (before now at : ℕ) → i < length ones → one ≡ get_or ones i one
-    → now ≤ before + 3 * (nodes one * node_costs (tags (tags_at others (places_where (may_share one) 1 others))))
+    → now ≤ before + 3 * (nodes one * node_costs (tags (tags_at others (positions_where (may_share one) 1 others))))
     → before + 3 * (nodes_all (tags (drop i ones)) * node_costs (tags others)) ≤ at
     → now + 3 * (nodes_all (tags (drop (i + 1) ones)) * node_costs (tags others)) ≤ at
 row-step ones others i one before now at h e c d =
-    rows-less (nodes one) (nodes_all (tags (drop (i + 1) ones))) (node_costs (tags (tags_at others (places_where (may_share one) 1 others))))
-    (node_costs (tags others)) before now at (at_places-le (may_share one) others) c
+    rows-less (nodes one) (nodes_all (tags (drop (i + 1) ones))) (node_costs (tags (tags_at others (positions_where (may_share one) 1 others))))
+    (node_costs (tags others)) before now at (at_positions-le (may_share one) others) c
     (rw (cut ones i one h e) at d)
 
 -- ---- members
@@ -122,6 +122,6 @@ take-nodes ts zero = omega arith
 take-nodes [] (suc k) = omega arith
 take-nodes (t ∷ ts) (suc k) = omega (arith, take-nodes ts k)
 
--- what is copied after the places that both lists have
+-- what is copied after the positions that both lists have
 pub rest-nodes : (ts : List Tag) (i k : ℕ) → nodes_all (tags (take k (drop i ts))) ≤ nodes_all (tags ts)
 rest-nodes ts i k = omega (arith, drop-nodes ts i, take-nodes (drop i ts) k)

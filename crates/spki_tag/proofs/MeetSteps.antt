@@ -4,7 +4,7 @@ use Rattle.std.proofs.lemmas.{Nat.{mul-le}, List.{drop_more, take_all, Elements.
 use Rattle.std.proofs.lemmas.Bool.{and_parts, or_parts, or_from, or_right, cond_both, cond-true, cond-false}
 use Rattle.std.specs.{Prelude.{if◌then◌else◌}, List.{filter, flat_map, starts_with}, Str.{bytes_eq}}
 use Rattle.std.specs.Cmp.Lexicographic.{bytes_decides, nat_list_eq_equiv}
-use Rattle.spki_tag.specs.Tag.{Tag, Tags, tags, star, string, prefix, range, list, set, none, more, IsNormalTag, is_star, is_set, is_nothing, is_set_or_star, is_normal, each_normal, is_none_or_many, nodes, nodes_all, most_nodes, alpha, time, date}
+use Rattle.spki_tag.specs.Tag.{Tag, Tags, tags, star, string, prefix, range, list, set, none, more, IsNormalTag, is_star, is_set, is_nothing, is_set_or_star, is_normal, each_normal, is_none_or_many, nodes, nodes_all, max_nodes, alpha, time, date}
 use Rattle.spki_tag.specs.Meet.{nothing, row, gather, any_is_nothing, across, meet, each_meet, pairs, members, kept, listed, SetRule, StringRule, PrefixRule, RangeRule, OrderingRule, side_by_side, ListRule, ListsAndStrings}
 use Rattle.spki_tag.proofs.{Exact.{three_parts, tags-items, items_tags}, NormalForms.{meet-normal_tag}, Members.{nodes_le-of_read}}
 
@@ -67,14 +67,14 @@ fewer a b false false h k j = absurd (true≢false (sym j))
 -- what the intersection of the members requires
 pub record MembersMeet (a b : Tag) : Type 0 where
   pub less : nodes_all (members_of a) + nodes_all (members_of b) + 1 ≤ nodes a + nodes b
-  pub bound : nodes_all (members_of a) * nodes_all (members_of b) ≤ most_nodes
+  pub bound : nodes_all (members_of a) * nodes_all (members_of b) ≤ max_nodes
   pub met : IsNormalTag (gather (pairs (members_of a) (members_of b)))
 
 pub members_meet : (a b : Tag) → is_star a ≡ false → is_star b ≡ false → (is_set a || is_set b) ≡ true
-    → IsNormalTag a → IsNormalTag b → nodes a * nodes b ≤ most_nodes → MembersMeet a b
+    → IsNormalTag a → IsNormalTag b → nodes a * nodes b ≤ max_nodes → MembersMeet a b
 members_meet a b h k j n m few = search (rules, fewer, le_trans, mul-le, members-le, meet-by_members, meet-normal_tag)
 
--- the member at a place, and those after it
+-- the member at a position, and those after it
 pub cut : (ts : List Tag) (i : ℕ) (t : Tag) → i < length ts → t ≡ get_or ts i t → drop i ts ≡ t ∷ drop (i + 1) ts
 cut ts i t h e = drop_more ts i t h ∙ ap (λ (x : Tag). x ∷ drop (i + 1) ts) (sym e)
 
@@ -89,7 +89,7 @@ pairs-step ones others met out ms added i t h e u o r = rw (o, r, append_assoc) 
 
 -- what the intersection of two lists requires
 pub record ListsMeet (head other : List ℕ) (ts us : List Tag) : Type 0 where
-  pub bound : nodes_all (tags ts) * nodes_all (tags us) ≤ most_nodes
+  pub bound : nodes_all (tags ts) * nodes_all (tags us) ≤ max_nodes
   pub one : each_normal is_nothing (tags ts) ≡ true
   pub second : each_normal is_nothing (tags us) ≡ true
   pub met : IsNormalTag (meet (list head (tags ts)) (list other (tags us)))
@@ -99,10 +99,10 @@ pub all_met : {A : Type 0} (F : List A → List Tag) (xs : List A) (met all : Li
 all_met F xs met all i nothing done e = sym (append-nil met) ∙ sym (ap (λ ts. met ++ ts) (ap F (drop_of_length-le xs done) ∙ nothing)) ∙ e
 
 pub lists_meet : (head other : List ℕ) (ts us : List Tag) → IsNormalTag (list head (tags ts)) → IsNormalTag (list other (tags us))
-    → nodes (list head (tags ts)) * nodes (list other (tags us)) ≤ most_nodes → ListsMeet head other ts us
+    → nodes (list head (tags ts)) * nodes (list other (tags us)) ≤ max_nodes → ListsMeet head other ts us
 lists_meet head other ts us n m few = search (rules, le_trans, mul-le, meet-normal_tag)
 
--- the members from a place on
+-- the members from a position on
 pub each_meet-rest : (ts us : List Tag) (i : ℕ) (t u : Tag) → i < length ts → i < length us
     → t ≡ get_or ts i t → u ≡ get_or us i u
     → each_meet (tags (drop i ts)) (tags (drop i us))
@@ -147,7 +147,7 @@ normal-drop ts zero h = h
 normal-drop [] (suc i) h = h
 normal-drop (t ∷ ts) (suc i) h = normal-drop ts i (three_parts is_nothing t (tags ts) h).2
 
--- The end of the loop over the places of two lists.
+-- The end of the loop over the positions of two lists.
 pub each_meet-last : (ts us met out all : List Tag) (i : ℕ) → min (length (drop i ts)) (length (drop i us)) ≡ 0
     → each_normal is_nothing (tags ts) ≡ true → each_normal is_nothing (tags us) ≡ true
     → met ++ each_meet (tags (drop i ts)) (tags (drop i us)) ≡ all → any_is_nothing met ≡ false
@@ -203,14 +203,14 @@ string_rule s y h = absurd h
 -- ---- rules: ranges
 
 pub range_rule : RangeRule
-range_rule alpha low up least most = refl
-range_rule time low up least most = refl
-range_rule date low up least most = refl
+range_rule alpha low up least greatest = refl
+range_rule time low up least greatest = refl
+range_rule date low up least greatest = refl
 
 pub ordering_rule : OrderingRule
-ordering_rule alpha low up least most = (refl, refl)
-ordering_rule time low up least most = (refl, refl)
-ordering_rule date low up least most = (refl, refl)
+ordering_rule alpha low up least greatest = (refl, refl)
+ordering_rule time low up least greatest = (refl, refl)
+ordering_rule date low up least greatest = (refl, refl)
 
 -- ---- rules: prefixes
 

@@ -39,7 +39,7 @@ tags_one ts us e = sym (items_tags ts) ∙ ap items e ∙ items_tags us
 pub lengths_differ : (ts us : List Tag) → length ts ≢ length us → IsTrue false ↔ (tags ts ≡ tags us)
 lengths_differ ts us differ = (λ h. absurd cc, λ e. absurd (differ (ap length (tags_one ts us e))))
 
--- if the members at one place differ, the lists differ
+-- if the members at one position differ, the lists differ
 pub member_differs : (ts us : List Tag) (i : ℕ) (t u : Tag) → i < length ts → length ts ≡ length us
     → t ≡ get_or ts i t → u ≡ get_or us i u → IsTrue false ↔ (t ≡ u) → IsTrue false ↔ (tags ts ≡ tags us)
 member_differs ts us i t u below long t_is u_is differ = (

@@ -6,7 +6,7 @@ use Rattle.std.specs.Cmp.Lexicographic.{same_text, bytes_decides}
 use Rattle.sexpr_core.specs.{Nodes.{members-values}, Value.{Value, plain, values, group}}
 use Rattle.spki_tag.specs.Faults.{first_fault, unless, IsNamed, tags_in, tags_in_list, tags_in_all, own_fault, list_fault, star_fault, form_fault, prefix_fault, range_fault, limits_fault, group_fault, are_limits, is_ordering, is_hinted, is_limit, looks, tag_fault}
 use Rattle.spki_tag.specs.{declared.fault.TagFault.{TagFault}, Request.{IsHead}}
-use Rattle.spki_tag.specs.Reading.{IsRead, AreNoLimits, fault_after, fault_after_all, most_read}
+use Rattle.spki_tag.specs.Reading.{IsRead, AreNoLimits, fault_after, fault_after_all, max_read}
 use Rattle.spki_tag.specs.Tag.{Tag, starred, Limit, limit_values, low_values, up_values, Ordering, alpha, time, date, ordering_name}
 use Rattle.spki_tag.proofs.FaultWalk.{first-none, first-some, looks-append, look-past, look-own, look-full, tag-past, tags-past, tags-count_all, list-fine, tags_in-list}
 use Rattle.spki_tag.proofs.TagReading.{IsReadSoFar, tag_values-tags}
@@ -40,17 +40,17 @@ tags_in-first : (v : Value) → (rest : List Value) × (tags_in v ≡ v ∷ rest
 tags_in-first (value.string hint octets) = ([], refl)
 tags_in-first (value.list vs) = (tags_in_list vs, refl)
 
-pub full : (used : ℕ) (v : Value) → most_read ≤ used → IsNamed faults.TooManyNodes (fault_after used v)
+pub full : (used : ℕ) (v : Value) → max_read ≤ used → IsNamed faults.TooManyNodes (fault_after used v)
 unfolding fault_after
 full used v h = search (rules, named_first, tags_in-first v, look-full)
 
-pub itself : (used : ℕ) (v : Value) (fault : TagFault) (f : Option TagFault) → used < most_read → own_fault v ≡ f
+pub itself : (used : ℕ) (v : Value) (fault : TagFault) (f : Option TagFault) → used < max_read → own_fault v ≡ f
     → IsNamed fault f → IsNamed fault (fault_after used v)
 unfolding fault_after IsNamed
 itself used v fault f h own = search (rules, named-by, tags_in-first v, look-own)
 
 -- the fault of a list of these members
-pub list-itself : (used : ℕ) (us vs : List Value) (fault : TagFault) → used < most_read → us ≡ vs
+pub list-itself : (used : ℕ) (us vs : List Value) (fault : TagFault) → used < max_read → us ≡ vs
     → IsNamed fault (list_fault vs) → IsNamed fault (fault_after used (group us))
 list-itself used us vs fault h e =
     itself used (group us) fault (list_fault vs) h (ap list_fault (members-values us ∙ e))
@@ -68,26 +68,26 @@ out_of_memory r found h = passed r faults.Memory (λ fault. IsNamed fault found)
 
 -- ---- lists that begin with the star
 
-pub star-itself : (used : ℕ) (us vs : List Value) (fault : TagFault) → used < most_read → us ≡ vs
+pub star-itself : (used : ℕ) (us vs : List Value) (fault : TagFault) → used < max_read → us ≡ vs
     → IsNamed fault (star_fault vs) → IsNamed fault (fault_after used (group (plain (codes "*") ∷ us)))
 star-itself used us vs fault h e =
     list-itself used (plain (codes "*") ∷ us) (plain (codes "*") ∷ vs) fault h (ap (λ (xs : List Value). plain (codes "*") ∷ xs) e)
 
-pub form-itself : (used : ℕ) (word : List ℕ) (vs : List Value) (fault : TagFault) → used < most_read
+pub form-itself : (used : ℕ) (word : List ℕ) (vs : List Value) (fault : TagFault) → used < max_read
     → IsNamed fault (form_fault word vs) → IsNamed fault (fault_after used (starred word (values vs)))
 form-itself used word vs fault h n = star-itself used (plain word ∷ vs) (plain word ∷ vs) fault h refl n
 
-pub prefix-itself : (used : ℕ) (word : List ℕ) (vs : List Value) (fault : TagFault) → used < most_read
+pub prefix-itself : (used : ℕ) (word : List ℕ) (vs : List Value) (fault : TagFault) → used < max_read
     → true ≡ bytes_eq word (codes "prefix") → IsNamed fault (prefix_fault vs)
     → IsNamed fault (fault_after used (starred word (values vs)))
 prefix-itself used word vs fault h e n = search (rules, form-itself)
 
-pub range-itself : (used : ℕ) (word : List ℕ) (vs : List Value) (fault : TagFault) → used < most_read
+pub range-itself : (used : ℕ) (word : List ℕ) (vs : List Value) (fault : TagFault) → used < max_read
     → true ≡ bytes_eq word (codes "range") → IsNamed fault (range_fault vs)
     → IsNamed fault (fault_after used (starred word (values vs)))
 range-itself used word vs fault h e n = search (rules, form-itself)
 
-pub unknown-itself : (used : ℕ) (word : List ℕ) (vs : List Value) → used < most_read
+pub unknown-itself : (used : ℕ) (word : List ℕ) (vs : List Value) → used < max_read
     → false ≡ bytes_eq word (codes "set") → false ≡ bytes_eq word (codes "prefix") → false ≡ bytes_eq word (codes "range")
     → IsNamed faults.UnknownStar (fault_after used (starred word (values vs)))
 unknown-itself used word vs h d e f =
@@ -195,24 +195,24 @@ limits_other vs h none = search (rules, no_limits)
 
 -- ---- lists and sets
 
-pub no_room_for_head-named : (used : ℕ) (head : List ℕ) (vs : List Value) → IsHead head → used < most_read
-    → most_read ≤ used + 1 → IsNamed faults.TooManyNodes (fault_after used (group (plain head ∷ vs)))
+pub head_over_bound-named : (used : ℕ) (head : List ℕ) (vs : List Value) → IsHead head → used < max_read
+    → max_read ≤ used + 1 → IsNamed faults.TooManyNodes (fault_after used (group (plain head ∷ vs)))
 unfolding fault_after
-no_room_for_head-named used head vs h room full = search (rules, named_first, tags_in-list, look-past, list-fine, look-full, full)
+head_over_bound-named used head vs h bound full = search (rules, named_first, tags_in-list, look-past, list-fine, look-full, full)
 
-pub list-members : (used : ℕ) (head : List ℕ) (vs : List Value) (fault : TagFault) → IsHead head → used + 1 < most_read
+pub list-members : (used : ℕ) (head : List ℕ) (vs : List Value) (fault : TagFault) → IsHead head → used + 1 < max_read
     → IsNamed fault (fault_after_all (used + 2) vs) → IsNamed fault (fault_after used (group (plain head ∷ vs)))
 unfolding fault_after fault_after_all
-list-members used head vs fault h room = search (rules, named-by, tags_in-list, look-past, list-fine)
+list-members used head vs fault h bound = search (rules, named-by, tags_in-list, look-past, list-fine)
 
-pub set-members : (used : ℕ) (vs : List Value) (fault : TagFault) → used < most_read
+pub set-members : (used : ℕ) (vs : List Value) (fault : TagFault) → used < max_read
     → IsNamed fault (fault_after_all (used + 1) vs) → IsNamed fault (fault_after used (starred (codes "set") (values vs)))
 unfolding fault_after fault_after_all
-set-members used vs fault room = search (rules, named-by, look-past)
+set-members used vs fault bound = search (rules, named-by, look-past)
 
-pub set-named : (used : ℕ) (v : Value) (vs : List Value) (fault : TagFault) → used < most_read → v ≡ starred (codes "set") (values vs)
+pub set-named : (used : ℕ) (v : Value) (vs : List Value) (fault : TagFault) → used < max_read → v ≡ starred (codes "set") (values vs)
     → IsNamed fault (fault_after_all (used + 1) vs) → IsNamed fault (fault_after used v)
-set-named used v vs fault room e h = subst (λ w. IsNamed fault (fault_after used w)) (sym e) (set-members used vs fault room h)
+set-named used v vs fault bound e h = subst (λ w. IsNamed fault (fault_after used w)) (sym e) (set-members used vs fault bound h)
 
 -- ---- the members, one after the other
 
@@ -258,6 +258,6 @@ pub ruleset limits_read = (named_first, out_of_memory, limits_hinted, limits_oth
 
 pub ruleset stars_read = (prefix_more, prefix_list, prefix_hinted, prefix-itself, range-itself, unknown-itself, star-itself, star-list, star-hinted)
 
-pub ruleset lists_read = (head_list, head_hinted, list-itself, no_room_for_head-named, list-members, set-members, set-named)
+pub ruleset lists_read = (head_list, head_hinted, list-itself, head_over_bound-named, list-members, set-members, set-named)
 
 pub ruleset tags_read = (named_first, out_of_memory, passed, full, itself, stars_read, lists_read, at_first, read-faultless)

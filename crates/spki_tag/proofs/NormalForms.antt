@@ -3,7 +3,7 @@
 use Rattle.std.proofs.Common.{◌≡◌, ℕ, zero, suc, max, ◌≤◌, Bool, true, false, ◌||◌, List, [], ◌∷◌, ◌++◌, refl, sym, ap, ◌∙◌, true≢false, arith, le_trans, rules, not, ◌*◌}
 use Rattle.std.proofs.{Math.Bool.{or-false, or-true}, lemmas.Bool.{and_parts, or_parts, or_from, cond_both}}
 use Rattle.std.specs.{List.{list_any, AllByRecursion}, Str.{bytes_eq}}
-use Rattle.spki_tag.specs.Tag.{Tag, Tags, tags, star, list, set, none, more, IsTag, AreTags, contains, some_contains, nodes, nodes_all, ldepth, ldepth_most, is_star, is_set, is_nothing, is_set_or_star, is_normal, each_normal, most_nodes, IsNormalTag, string, prefix, range}
+use Rattle.spki_tag.specs.Tag.{Tag, Tags, tags, star, list, set, none, more, IsTag, AreTags, contains, some_contains, nodes, nodes_all, ldepth, max_ldepth, is_star, is_set, is_nothing, is_set_or_star, is_normal, each_normal, max_nodes, IsNormalTag, string, prefix, range}
 use Rattle.spki_tag.specs.Meet.{items, gather, nothing, any_is_nothing, listed, members as in_place, string_meet, range_meet, prefix_meet, kept, row, list_meet, across, set_across, meet, each_meet, pairs}
 use Rattle.spki_tag.specs.{Request.{Request, IsHead}, Reading.{IsNormalOf, AreNormal, spread, set_of}}
 use Rattle.spki_tag.proofs.Exact.{IsBare, string-bare, range-bare, prefix-bare, three_parts, all_three, append-exact, gather-exact, tags-items, items_tags, listed-exact}
@@ -98,7 +98,7 @@ set_of-normal ts h =
     (λ e. record { written = tt; normal = refl; same = λ g. sym (star_among (spread ts) g e) ∙ spread-exact ts g; no_more = omega arith })
     (gathered_set ts h)
 
-pub IsNormalTag-of : (w t : Tag) → IsNormalOf w t → nodes w ≤ most_nodes → IsNormalTag t
+pub IsNormalTag-of : (w t : Tag) → IsNormalOf w t → nodes w ≤ max_nodes → IsNormalTag t
 IsNormalTag-of w t h k = record { written = h.written; normal = h.normal; few = le_trans h.no_more k }
 
 -- ---- lists
@@ -115,7 +115,7 @@ list-members (t ∷ ts) h k =
 
 -- a list without a member (* set)
 pub list_is_normal : (head : List ℕ) (ts : List Tag) → IsHead head → AreNormal ts → list_any is_nothing ts ≡ false
-    → nodes (list head (tags ts)) ≤ most_nodes → IsNormalTag (list head (tags ts))
+    → nodes (list head (tags ts)) ≤ max_nodes → IsNormalTag (list head (tags ts))
 list_is_normal head ts h k e few = search (rules, list-members)
 
 -- the list of a head and tags in normal form
@@ -141,7 +141,7 @@ pub record IsFlat (n : ℕ) (t : Tag) : Type 0 where
 pub record AreFlat (bar : Tag → Bool) (n : ℕ) (ts : Tags) : Type 0 where
   pub written : AreTags ts
   pub normal : each_normal bar ts ≡ true
-  pub flat : ldepth_most ts ≤ n
+  pub flat : max_ldepth ts ≤ n
 
 -- such a tag that is (* set), or neither a set nor a star
 abbrev IsMet : ℕ → Tag → Type 0
@@ -275,5 +275,5 @@ deepest_flat a b h k = (meet_flat _ a b (search rules) (search rules)).0
 pub meet_ldepth : (a b : Tag) → IsNormalTag a → IsNormalTag b → ldepth (meet a b) ≤ max (ldepth a) (ldepth b)
 meet_ldepth a b h k = (deepest_flat a b h k).flat
 
-pub meet-normal_tag : (a b : Tag) → IsNormalTag a → IsNormalTag b → nodes a * nodes b ≤ most_nodes → IsNormalTag (meet a b)
+pub meet-normal_tag : (a b : Tag) → IsNormalTag a → IsNormalTag b → nodes a * nodes b ≤ max_nodes → IsNormalTag (meet a b)
 meet-normal_tag a b h k few = search (rules, deepest_flat, le_trans, meet_le)

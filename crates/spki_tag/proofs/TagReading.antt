@@ -4,8 +4,8 @@ use Rattle.std.proofs.Common.{◌≡◌, ℕ, Bool, true, false, List, ◌++◌,
 use Rattle.std.proofs.lemmas.{Bool.{or_parts}, List.{map_push, Folds.{list_any-append}}}
 use Rattle.std.specs.{Prelude.{codes, if◌then◌else◌}, Str.{bytes_eq}, Cmp.Lexicographic.{other_text}, List.{list_any, AllByRecursion}}
 use Rattle.sexpr_core.specs.Value.{Values, values, Value, plain, group}
-use Rattle.spki_tag.specs.Tag.{Tag, Tags, Limit, Ordering, alpha, time, date, star, string, prefix, range, list, set, none, more, IsTag, AreTags, tag_value, tag_values, ordering_name, low_values, up_values, starred, tags, contains, contain_each, some_contains, nodes_all, nodes, most_nodes, is_star, IsNormalTag}
-use Rattle.spki_tag.specs.Reading.{IsNormalOf, AreNormal, normal, normals, ReadsAs, spread, set_of, most_read, IsRead, AreRead, MakeSame, IsPut, ArePut}
+use Rattle.spki_tag.specs.Tag.{Tag, Tags, Limit, Ordering, alpha, time, date, star, string, prefix, range, list, set, none, more, IsTag, AreTags, tag_value, tag_values, ordering_name, low_values, up_values, starred, tags, contains, contain_each, some_contains, nodes_all, nodes, max_nodes, is_star, IsNormalTag}
+use Rattle.spki_tag.specs.Reading.{IsNormalOf, AreNormal, normal, normals, ReadsAs, spread, set_of, max_read, IsRead, AreRead, MakeSame, IsPut, ArePut}
 use Rattle.spki_tag.specs.{Request.{Request, Requests, IsHead}, Meet.{listed, gather, members as in_place}}
 use Rattle.spki_tag.proofs.NormalForms.{set_of-normal, listed-normal, spread-members, in_place-gather, IsMember, IsNormalTag-of}
 use Rattle.spki_tag.specs.Request as request
@@ -183,7 +183,7 @@ pub record IsReadSoFar (used : ℕ) (vs : List Value) (ts : List Tag) (counted :
   pub spelled : map tag_value ws ++ left ≡ vs
   pub value : ts ≡ normals (tags ws)
   pub sum : counted ≡ used + nodes_all (tags ws)
-  pub few : counted ≤ most_read
+  pub few : counted ≤ max_read
 
 pub so_far_push : (used counted after : ℕ) (vs left further : List Value) (ts : List Tag) (v : Value) (t : Tag)
     → IsReadSoFar used vs ts counted left → left ≡ v ∷ further → IsRead counted v t after
@@ -287,7 +287,7 @@ pub record IsPutSoFar (used : ℕ) (vs : List Value) (before after : List Tag) (
   pub appended : after ≡ before ++ put
   pub alike : MakeSame put (spread (normals (tags ws)))
   pub sum : counted ≡ used + nodes_all (tags ws)
-  pub few : counted ≤ most_read
+  pub few : counted ≤ max_read
 
 pub put_push : (used counted after : ℕ) (vs left further : List Value) (before ts us : List Tag) (v : Value)
     → IsPutSoFar used vs before ts counted left → left ≡ v ∷ further → IsPut counted v ts us after
@@ -315,7 +315,7 @@ pub read_so_far : (used counted : ℕ) (vs left : List Value) (before after : Li
 read_so_far used counted vs left before after h =
     record { ws = h.ws; written = h.written; spelled = h.spelled; value = refl; sum = h.sum; few = h.few }
 
-pub put_none : (used : ℕ) (vs : List Value) (before : List Tag) → used ≤ most_read → IsPutSoFar used vs before before used vs
+pub put_none : (used : ℕ) (vs : List Value) (before : List Tag) → used ≤ max_read → IsPutSoFar used vs before before used vs
 put_none used vs before h = record {
   ws = [];
   put = [];
@@ -364,7 +364,7 @@ each_normal used after vs ts r = search (rules, normals-of)
 
 -- the list or the set of the members that were read has few enough nodes
 pub members_fit : (used after : ℕ) (vs : List Value) (ts : List Tag) → AreRead used vs ts after
-    → 2 + nodes_all (tags ts) ≤ most_nodes
+    → 2 + nodes_all (tags ts) ≤ max_nodes
 members_fit used after vs ts r = omega (arith, r.counted, r.few, nodes_all-of (tags r.ws) ts (each_normal used after vs ts r))
 
 pub members_normal : (used after : ℕ) (vs : List Value) (ts : List Tag) → AreRead used vs ts after → AreNormal ts

@@ -10,7 +10,7 @@ pub mod NodeFalls
 pub mod Grounds
 pub mod GroundFalls
 pub mod Meet
-pub mod Places
+pub mod Positions
 pub mod TagForms
 pub mod Inner
 pub mod Cost

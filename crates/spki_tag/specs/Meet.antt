@@ -16,7 +16,7 @@ use Rattle.spki_tag.specs.Request as request
 --   and a range of times or dates: a range of the latter. No string is both a time and a date.
 -- - A prefix and a range: the prefix is the range from itself to below the least string above all strings that start with
 --   it.
--- - Two lists with the same head: place by place. A missing place at the end of one list does not restrict the other.
+-- - Two lists with the same head: member by member. A missing member at the end of one list does not restrict the other.
 -- - Any other two tags have no request in common.
 
 -- ---- limits
@@ -234,7 +234,7 @@ kinds_share (lists head) (lists other) = bytes_eq head other
 abbrev pub may_share : Tag → Tag → Bool
 may_share t u = kinds_share (kind t) (kind u)
 
--- ---- places
+-- ---- positions
 
 -- the members of a set, in order; a tag that is no set is its own only member
 abbrev pub members : Tag → List Tag
@@ -245,12 +245,12 @@ members (range ordering low up) = range ordering low up ∷ []
 members (list head further) = list head further ∷ []
 members (set ts) = items ts
 
--- the places of the tags that pass a test, in increasing order; the first place is n
-abbrev pub places_where : (Tag → Bool) → ℕ → List Tag → List ℕ
-places_where p n [] = []
-places_where p n (t ∷ ts) = if p t then n ∷ places_where p (n + 1) ts else places_where p (n + 1) ts
+-- the positions of the tags that pass a test, in increasing order; the first position is n
+abbrev pub positions_where : (Tag → Bool) → ℕ → List Tag → List ℕ
+positions_where p n [] = []
+positions_where p n (t ∷ ts) = if p t then n ∷ positions_where p (n + 1) ts else positions_where p (n + 1) ts
 
--- the tags at some places; the first place is 1
+-- the tags at some positions; the first position is 1
 abbrev pub tags_at : List Tag → List ℕ → List Tag
 tags_at ts [] = []
 tags_at ts (n ∷ ns) = slice_index_or ts (n - 1) star ∷ tags_at ts ns
@@ -304,10 +304,10 @@ PrefixesApart =
 -- exclude each other.
 abbrev pub RangeRule : Type 0
 RangeRule =
-    (o : Ordering) (low up least most : Option Limit)
-    → meet (range o low up) (range o least most)
-    ≡ (if exclude (greater_low low least) (lesser_up up most) then nothing
-    else range o (greater_low low least) (lesser_up up most))
+    (o : Ordering) (low up least greatest : Option Limit)
+    → meet (range o low up) (range o least greatest)
+    ≡ (if exclude (greater_low low least) (lesser_up up greatest) then nothing
+    else range o (greater_low low least) (lesser_up up greatest))
 
 -- A prefix is treated as the range from itself to below the least string above all strings that start with it.
 abbrev pub PrefixAsRange : Type 0
@@ -319,14 +319,14 @@ PrefixAsRange =
 -- If one range is of times or dates, a range of any strings is treated as one of times or dates.
 abbrev pub OrderingRule : Type 0
 OrderingRule =
-    (o : Ordering) (low up least most : Option Limit)
-    → (meet (range alpha low up) (range o least most) ≡ meet (range o low up) (range o least most))
-    × (meet (range o low up) (range alpha least most) ≡ meet (range o low up) (range o least most))
+    (o : Ordering) (low up least greatest : Option Limit)
+    → (meet (range alpha low up) (range o least greatest) ≡ meet (range o low up) (range o least greatest))
+    × (meet (range o low up) (range alpha least greatest) ≡ meet (range o low up) (range o least greatest))
 
 -- No string is both a time and a date.
 abbrev pub TimesAndDates : Type 0
 TimesAndDates =
-    (low up least most : Option Limit) → LeaveEither (range time low up) (range date least most) nothing
+    (low up least greatest : Option Limit) → LeaveEither (range time low up) (range date least greatest) nothing
 
 -- the first of some tags with the first of others, and so on
 abbrev pub side_by_side : List Tag → List Tag → List Tag

@@ -24,7 +24,7 @@ AreNormal (t ∷ ts) = IsTag t × (is_normal t ≡ true) × AreNormal ts
 
 -- ---- the normal form
 
--- The normal form of a tag that is read (RFC 2693, section 6.3.1, has sets of tags at any place). It is made from the
+-- The normal form of a tag that is read (RFC 2693, section 6.3.1, has sets of tags at any depth). It is made from the
 -- inside out. The members of a set in a set replace it. A set with a member (*) is (*). A set with one member is that
 -- member. A list with a member (* set) is (* set). The order does not change, repeated members are kept, and ranges
 -- are kept as written, also if they contain nothing.
@@ -55,8 +55,8 @@ abbrev mutual
 -- ---- what reading a tag returns
 
 -- the most nodes that a tag may have when it is read
-abbrev pub most_read : ℕ
-most_read = 1024
+abbrev pub max_read : ℕ
+max_read = 1024
 
 -- The value is a written tag w of at most 1,024 nodes, and t is its normal form (RFC 2693, section 6.3.1). That is a tag
 -- in normal form with the same requests and no more nodes.
@@ -64,13 +64,13 @@ pub record ReadsAs (v : Value) (t : Tag) : Type 0 where
   pub w : Tag
   pub written : IsTag w
   pub spelled : tag_value w ≡ v
-  pub few : nodes w ≤ most_read
+  pub few : nodes w ≤ max_read
   pub value : t ≡ normal w
   pub normal : IsNormalOf w t
 
 -- Unless memory ran out, no tag of at most 1,024 nodes is written as the value.
 abbrev pub IsNoTag : TagFault → Value → Type 0
-IsNoTag fault v = (w : Tag) → IsTag w → nodes w ≤ most_read → tag_value w ≡ v → fault ≡ faults.Memory
+IsNoTag fault v = (w : Tag) → IsTag w → nodes w ≤ max_read → tag_value w ≡ v → fault ≡ faults.Memory
 
 -- Unless memory ran out, no request is written as the value.
 abbrev pub IsNoRequest : TagFault → Value → Type 0
@@ -93,7 +93,7 @@ pub record IsRead (used : ℕ) (v : Value) (t : Tag) (after : ℕ) : Type 0 wher
   pub spelled : tag_value w ≡ v
   pub value : t ≡ normal w
   pub counted : after ≡ used + nodes w
-  pub few : after ≤ most_read
+  pub few : after ≤ max_read
 
 -- the same for the members of a list
 pub record AreRead (used : ℕ) (vs : List Value) (ts : List Tag) (after : ℕ) : Type 0 where
@@ -102,7 +102,7 @@ pub record AreRead (used : ℕ) (vs : List Value) (ts : List Tag) (after : ℕ) 
   pub spelled : map tag_value ws ≡ vs
   pub value : ts ≡ normals (tags ws)
   pub counted : after ≡ used + nodes_all (tags ws)
-  pub few : after ≤ most_read
+  pub few : after ≤ max_read
 
 -- ---- the members of a set
 
@@ -120,7 +120,7 @@ pub record IsPut (used : ℕ) (v : Value) (before now : List Tag) (after : ℕ) 
   pub appended : now ≡ before ++ put
   pub alike : MakeSame put (members (normal w))
   pub counted : after ≡ used + nodes w
-  pub few : after ≤ most_read
+  pub few : after ≤ max_read
 
 -- the same for the members of a set
 pub record ArePut (used : ℕ) (vs : List Value) (before now : List Tag) (after : ℕ) : Type 0 where
@@ -131,7 +131,7 @@ pub record ArePut (used : ℕ) (vs : List Value) (before now : List Tag) (after 
   pub appended : now ≡ before ++ put
   pub alike : MakeSame put (spread (normals (tags ws)))
   pub counted : after ≡ used + nodes_all (tags ws)
-  pub few : after ≤ most_read
+  pub few : after ≤ max_read
 
 -- ---- ranges
 

@@ -162,7 +162,7 @@ is_ordered date octets = is_date octets
 
 abbrev mutual
   -- Whether a tag contains a request. A list contains lists that are at least as long. Each member of the tag contains the
-  -- request at its place, and further members of the request are not restricted.
+  -- request at its position, and further members of the request are not restricted.
   pub contains : Tag → Request → Bool
   contains star g = true
   contains (string octets) (request.string requested) = bytes_eq octets requested
@@ -211,13 +211,13 @@ abbrev mutual
   ldepth (string octets) = 0
   ldepth (prefix octets) = 0
   ldepth (range ordering low up) = 0
-  ldepth (list head further) = 1 + ldepth_most further
-  ldepth (set members) = ldepth_most members
+  ldepth (list head further) = 1 + max_ldepth further
+  ldepth (set members) = max_ldepth members
 
   -- the greatest depth among some tags
-  pub ldepth_most : Tags → ℕ
-  ldepth_most none = 0
-  ldepth_most (more t ts) = max (ldepth t) (ldepth_most ts)
+  pub max_ldepth : Tags → ℕ
+  max_ldepth none = 0
+  max_ldepth (more t ts) = max (ldepth t) (max_ldepth ts)
 
 -- ---- tests
 
@@ -293,11 +293,11 @@ abbrev mutual
   each_normal is_barred (more t ts) = not (is_barred t) && is_normal t && each_normal is_barred ts
 
 -- the most nodes of a tag
-abbrev pub most_nodes : ℕ
-most_nodes = 1000000
+abbrev pub max_nodes : ℕ
+max_nodes = 1000000
 
 -- a tag in normal form, of at most 1,000,000 nodes
 pub record IsNormalTag (t : Tag) : Type 0 where
   pub written : IsTag t
   pub normal : is_normal t ≡ true
-  pub few : nodes t ≤ most_nodes
+  pub few : nodes t ≤ max_nodes

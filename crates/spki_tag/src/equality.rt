@@ -33,7 +33,7 @@ impl Tag {
     }
 }
 
-/// Whether both slices have equally many tags, and those at each place are the same.
+/// Whether both slices have equally many tags, and those at each position are the same.
 #[cycle(same)]
 fn all_same(ones: &[Tag], others: &[Tag]) -> bool
     ensures { IsTrue result ↔ (tags ones.now ≡ tags others.now) }

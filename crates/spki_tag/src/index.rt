@@ -3,7 +3,7 @@
 //! far as their kinds and strings show.
 
 ghost use Rattle.std.specs.{Prelude.{◌≡◌, ◌++◌, [], ℕ, List, IfOk, OnOk}, Str.{bytes_eq}};
-ghost use Rattle.spki_tag.specs.{Meet.{kind, may_share, members, places_where}, Places.{kind_of, found_at, place_if, ArePlacesOf, IsAdded}};
+ghost use Rattle.spki_tag.specs.{Meet.{kind, may_share, members, positions_where}, Positions.{kind_of, found_at, position_if, ArePositionsOf, IsAdded}};
 
 use crate::leaf::Leaf;
 use crate::merge::merged;
@@ -60,40 +60,40 @@ impl<'a> Kind<'a> {
     }
 }
 
-/// For a string, the places of the tags that are this string, or of the lists with this head, in increasing order. A place is a tag's
-/// position among the tags, from 1.
-type PlacesByString<'a> = BTreeMap<&'a [u8], Vec<usize>>;
+/// For a string, the positions of the tags that are this string, or of the lists with this head, in increasing order. A position is a tag's
+/// number among the tags, from 1.
+type PositionsByString<'a> = BTreeMap<&'a [u8], Vec<usize>>;
 
-/// Appends `place`, the place of one more tag, to the places that the map has for `string`, which is the tag itself or, for a list, its
-/// head. A string that is not in the map yet is added. Err if memory ran out; then the map may have the string without the place.
-fn add_place<'a>(
-    map: &mut PlacesByString<'a>,
+/// Appends `position`, the position of one more tag, to the positions that the map has for `string`, which is the tag itself or, for a list, its
+/// head. A string that is not in the map yet is added. Err if memory ran out; then the map may have the string without the position.
+fn add_position<'a>(
+    map: &mut PositionsByString<'a>,
     string: &'a [u8],
-    place: usize,
+    position: usize,
 ) -> Result<(), AllocError>
-    ensures { OnOk result ((q : List ℕ) → found_at map.new q ≡ found_at map.old q ++ place_if (bytes_eq q string.now) place) }
+    ensures { OnOk result ((q : List ℕ) → found_at map.new q ≡ found_at map.old q ++ position_if (bytes_eq q string.now) position) }
 {
-    map.entry(string)?.or_default().push(place)?;
+    map.entry(string)?.or_default().push(position)?;
     Ok(())
 }
 
-/// The places that the map has for a string, in increasing order. Empty if it has none.
-fn places_at<'m>(map: &'m PlacesByString<'_>, string: &[u8]) -> &'m [usize]
+/// The positions that the map has for a string, in increasing order. Empty if it has none.
+fn positions_at<'m>(map: &'m PositionsByString<'_>, string: &[u8]) -> &'m [usize]
     ensures { result.now ≡ found_at map.now string.now }
 {
     match map.get(string) {
         None => &[],
-        Some(places) => places.as_slice(),
+        Some(positions) => positions.as_slice(),
     }
 }
 
-/// The places of tags, counted from 1, in increasing order, by what the tags can contain.
+/// The positions of tags, counted from 1, in increasing order, by what the tags can contain.
 #[derive(Drop)]
-struct PlacesByKind<'a> {
+struct PositionsByKind<'a> {
     /// Those of strings, by string.
-    strings: PlacesByString<'a>,
+    strings: PositionsByString<'a>,
     /// Those of lists, by head.
-    lists: PlacesByString<'a>,
+    lists: PositionsByString<'a>,
     /// Those of prefixes, ranges, sets and `(*)`.
     with_many_strings: Vec<usize>,
     /// Those of all tags that may contain strings: all but lists.
@@ -104,12 +104,12 @@ struct PlacesByKind<'a> {
     all: Vec<usize>,
 }
 
-impl<'a> PlacesByKind<'a> {
+impl<'a> PositionsByKind<'a> {
     /// An index of no tags: each of its fields is empty.
-    fn new(alloc: Global) -> PlacesByKind<'a>
-        ensures { ArePlacesOf result [] }
+    fn new(alloc: Global) -> PositionsByKind<'a>
+        ensures { ArePositionsOf result [] }
     {
-        PlacesByKind {
+        PositionsByKind {
             strings: BTreeMap::new(alloc),
             lists: BTreeMap::new(alloc),
             with_many_strings: Vec::new(alloc),
@@ -119,51 +119,51 @@ impl<'a> PlacesByKind<'a> {
         }
     }
 
-    /// Adds `place`, the place of one more tag, to each field that has the places of tags of its kind. `PlacesByKind::of` adds places in
-    /// increasing order, so each field has them in this order. Err if memory ran out; then only some of the fields may have the place.
-    fn add(&mut self, kind: Kind<'a>, place: usize) -> Result<(), AllocError>
-        ensures { OnOk result (IsAdded self.old self.new (kind_of kind.entry) place) }
+    /// Adds `position`, the position of one more tag, to each field that has the positions of tags of its kind. `PositionsByKind::of` adds positions
+    /// in increasing order, so each field has them in this order. Err if memory ran out; then only some of the fields may have the position.
+    fn add(&mut self, kind: Kind<'a>, position: usize) -> Result<(), AllocError>
+        ensures { OnOk result (IsAdded self.old self.new (kind_of kind.entry) position) }
     {
-        self.all.push(place)?;
+        self.all.push(position)?;
         match kind {
             Kind::Any => {
-                self.with_many_strings.push(place)?;
-                self.with_strings.push(place)?;
-                self.any.push(place)?;
+                self.with_many_strings.push(position)?;
+                self.with_strings.push(position)?;
+                self.any.push(position)?;
             }
             Kind::Strings => {
-                self.with_many_strings.push(place)?;
-                self.with_strings.push(place)?;
+                self.with_many_strings.push(position)?;
+                self.with_strings.push(position)?;
             }
             Kind::One(octets) => {
-                add_place(&mut self.strings, octets, place)?;
-                self.with_strings.push(place)?;
+                add_position(&mut self.strings, octets, position)?;
+                self.with_strings.push(position)?;
             }
-            Kind::Lists(head) => add_place(&mut self.lists, head, place)?,
+            Kind::Lists(head) => add_position(&mut self.lists, head, position)?,
         }
         Ok(())
     }
 
-    /// Makes the index of these tags: their places, from 1, by their kinds and strings. Err if memory ran out.
-    fn of(alloc: Global, tags: &'a [Tag]) -> Result<PlacesByKind<'a>, AllocError>
-        ensures { IfOk result (λ places. ArePlacesOf places tags.now) }
+    /// Makes the index of these tags: their positions, from 1, by their kinds and strings. Err if memory ran out.
+    fn of(alloc: Global, tags: &'a [Tag]) -> Result<PositionsByKind<'a>, AllocError>
+        ensures { IfOk result (λ positions. ArePositionsOf positions tags.now) }
     {
-        let mut places = PlacesByKind::new(alloc);
+        let mut positions = PositionsByKind::new(alloc);
         for (i, tag) in tags.iter().enumerate() {
-            places.add(Kind::of(tag), i + 1)?;
+            positions.add(Kind::of(tag), i + 1)?;
         }
-        Ok(places)
+        Ok(positions)
     }
 }
 
-/// An index of the members of a set by kind and string (RFC 2693, section 6.3.1). Each member has a place, counted from 1.
+/// An index of the members of a set by kind and string (RFC 2693, section 6.3.1). Each member has a position, counted from 1.
 /// In a contract an index is the list of the members.
 #[derive(Drop)]
 pub struct Index<'a> {
     /// The members that are indexed, in order.
     members: &'a [Tag],
-    /// The places of `members`, by kind and string.
-    places: PlacesByKind<'a>,
+    /// The positions of `members`, by kind and string.
+    positions: PositionsByKind<'a>,
 }
 
 impl<'a> Model for Index<'a> {
@@ -174,11 +174,11 @@ impl<'a> Model for Index<'a> {
 
     ghost coded = { coded_list tag_code };
 
-    ghost use Rattle.spki_tag.specs.Places.{ArePlacesOf};
+    ghost use Rattle.spki_tag.specs.Positions.{ArePositionsOf};
 
     ghost view = { λ index. index.members.now };
 
-    ghost invariant = { λ index. ArePlacesOf index.places index.members.now };
+    ghost invariant = { λ index. ArePositionsOf index.positions index.members.now };
 }
 
 impl<'a> Index<'a> {
@@ -193,13 +193,13 @@ impl<'a> Index<'a> {
         Index::over(alloc, tag.members())
     }
 
-    /// Makes the index of these tags, for a caller that has the members of a set but no tag that is this set. Their places count from 1.
+    /// Makes the index of these tags, for a caller that has the members of a set but no tag that is this set. Their positions count from 1.
     /// Err if memory ran out.
     pub(crate) fn over(alloc: Global, members: &'a [Tag]) -> Result<Index<'a>, AllocError>
         ensures { IfOk result (λ index. index ≡ members.now) }
     {
-        let places = PlacesByKind::of(alloc, members)?;
-        Ok(Index { members, places })
+        let positions = PositionsByKind::of(alloc, members)?;
+        Ok(Index { members, positions })
     }
 
     /// The members that are indexed, in order.
@@ -209,7 +209,7 @@ impl<'a> Index<'a> {
         self.members
     }
 
-    /// The places, from 1, of the members that can have a request in common with `tag`, as far as their kinds and strings show, in
+    /// The positions, from 1, of the members that can have a request in common with `tag`, as far as their kinds and strings show, in
     /// increasing order. For a string these are the members that are the same string, and all prefixes and ranges. For a list they
     /// are the lists with the same head. For a prefix or a range they are all strings, prefixes and ranges, and for a
     /// set or `(*)` all members. Members that are `(*)` or sets are always included.
@@ -217,22 +217,22 @@ impl<'a> Index<'a> {
     /// # Errors
     ///
     /// `AllocError` if memory ran out.
-    #[tactic(auto, using(crate::proofs::Places::places_of_string, crate::proofs::Places::places_of_lists))]
-    pub fn places(&self, alloc: Global, tag: &Tag) -> Result<Vec<usize>, AllocError>
-        ensures { IfOk result (λ places. places.items ≡ places_where (may_share tag.now) 1 self.now) }
+    #[tactic(auto, using(crate::proofs::Positions::positions_of_string, crate::proofs::Positions::positions_of_lists))]
+    pub fn positions(&self, alloc: Global, tag: &Tag) -> Result<Vec<usize>, AllocError>
+        ensures { IfOk result (λ positions. positions.items ≡ positions_where (may_share tag.now) 1 self.now) }
     {
         match Kind::of(tag) {
-            Kind::Any => Vec::from_slice(alloc, self.places.all.as_slice()),
-            Kind::Strings => Vec::from_slice(alloc, self.places.with_strings.as_slice()),
+            Kind::Any => Vec::from_slice(alloc, self.positions.all.as_slice()),
+            Kind::Strings => Vec::from_slice(alloc, self.positions.with_strings.as_slice()),
             Kind::One(octets) => merged(
                 alloc,
-                places_at(&self.places.strings, octets),
-                self.places.with_many_strings.as_slice(),
+                positions_at(&self.positions.strings, octets),
+                self.positions.with_many_strings.as_slice(),
             ),
             Kind::Lists(head) => merged(
                 alloc,
-                places_at(&self.places.lists, head),
-                self.places.any.as_slice(),
+                positions_at(&self.positions.lists, head),
+                self.positions.any.as_slice(),
             ),
         }
     }

@@ -7,7 +7,7 @@
 
 ghost use Rattle.std.specs.Prelude.{◌≡◌, ◌+◌, ◌*◌, ◌<◌, ◌≤◌, ◌↔◌, ◌++◌, ◌&&◌, [], max, true, false, IfOk, OnOk, IsErrOf, MatchOption, All, length};
 ghost use Rattle.std.specs.Arc.{arc_slice_items};
-ghost use Rattle.spki_tag.specs.Tag.{IsNormalTag, contains, each_normal, is_nothing, is_set_or_star, most_nodes, nodes, nodes_all, ldepth, list, tags};
+ghost use Rattle.spki_tag.specs.Tag.{IsNormalTag, contains, each_normal, is_nothing, is_set_or_star, max_nodes, nodes, nodes_all, ldepth, list, tags};
 ghost use Rattle.spki_tag.specs.{Request.{Request, IsRequest}, Meet.{meet, each_meet, pairs, row, gather, any_is_nothing, tags_at}};
 ghost use Rattle.spki_tag.specs.Cost.{meet_cost, node_costs};
 
@@ -24,7 +24,7 @@ use std::marker::Brand;
 use std::sync::ledger::{Blank, Ledger};
 
 /// The greatest product of the numbers of nodes of two tags that are intersected.
-const MOST_NODES: usize = 1_000_000;
+const MAX_NODES: usize = 1_000_000;
 
 /// Returns the intersection of two tags of any forms. The product of their numbers of nodes must be at most 1,000,000. Err if memory ran
 /// out, or if a shared part has too many owners to count.
@@ -35,7 +35,7 @@ fn meet_tags<L: Ledger>(
     other: &Tag,
     ticks: &mut Ticks<L>,
 ) -> Result<Tag, AllocError>
-    requires { nodes one.now * nodes other.now ≤ most_nodes }
+    requires { nodes one.now * nodes other.now ≤ max_nodes }
     ensures value { IfOk result (λ c. c ≡ meet one.now other.now) }
     ensures cost { ticks.new ≤ ticks.old + 3 * meet_cost one.now other.now }
     ensures grows { ticks.old < ticks.new }
@@ -61,7 +61,7 @@ fn meet_single<L: Ledger>(
     other: &Tag,
     ticks: &mut Ticks<L>,
 ) -> Result<Tag, AllocError>
-    requires bound { nodes one.now * nodes other.now ≤ most_nodes }
+    requires bound { nodes one.now * nodes other.now ≤ max_nodes }
     requires one { is_set_or_star one.now ≡ false }
     requires other { is_set_or_star other.now ≡ false }
     ensures value { IfOk result (λ c. c ≡ meet one.now other.now) }
@@ -93,7 +93,7 @@ fn meet_single<L: Ledger>(
 }
 
 /// Returns the intersection of two lists. The first has the head `head` and then the members `further`, the second the head `other` and
-/// then the members `others`. It is `(* set)` if the heads differ, or if the intersection of two members at one place is `(* set)`. Err
+/// then the members `others`. It is `(* set)` if the heads differ, or if the intersection of two members at one position is `(* set)`. Err
 /// if memory ran out, or if a shared part has too many owners to count.
 #[cycle(meet)]
 fn meet_lists<L: Ledger>(
@@ -104,7 +104,7 @@ fn meet_lists<L: Ledger>(
     others: &[Tag],
     ticks: &mut Ticks<L>,
 ) -> Result<Tag, AllocError>
-    requires bound { nodes_all (tags further.now) * nodes_all (tags others.now) ≤ most_nodes }
+    requires bound { nodes_all (tags further.now) * nodes_all (tags others.now) ≤ max_nodes }
     requires one { each_normal is_nothing (tags further.now) ≡ true }
     requires other { each_normal is_nothing (tags others.now) ≡ true }
     requires met { IsNormalTag (meet (list (arc_slice_items head.now) (tags further.now)) (list (arc_slice_items other.now) (tags others.now))) }
@@ -123,7 +123,7 @@ fn meet_lists<L: Ledger>(
     }
 }
 
-/// Returns the intersections of the members of two lists with the same head, place by place. Where only the longer list has a member,
+/// Returns the intersections of the members of two lists with the same head, member by member. Where only the longer list has a member,
 /// that member is copied. None if some intersection is `(* set)`: then that of the lists is too. Err if memory ran out, or if a shared part has too
 /// many owners to count.
 #[cycle(meet)]
@@ -133,7 +133,7 @@ fn meet_each<L: Ledger>(
     others: &[Tag],
     ticks: &mut Ticks<L>,
 ) -> Result<Option<Vec<Tag>>, AllocError>
-    requires bound { nodes_all (tags ones.now) * nodes_all (tags others.now) ≤ most_nodes }
+    requires bound { nodes_all (tags ones.now) * nodes_all (tags others.now) ≤ max_nodes }
     requires one { each_normal is_nothing (tags ones.now) ≡ true }
     requires other { each_normal is_nothing (tags others.now) ≡ true }
     ensures value { IfOk result (λ r. let met = each_meet (tags ones.now) (tags others.now) in
@@ -170,7 +170,7 @@ fn meet_members<L: Ledger>(
     others: &[Tag],
     ticks: &mut Ticks<L>,
 ) -> Result<Tag, AllocError>
-    requires bound { nodes_all (tags ones.now) * nodes_all (tags others.now) ≤ most_nodes }
+    requires bound { nodes_all (tags ones.now) * nodes_all (tags others.now) ≤ max_nodes }
     requires met { IsNormalTag (gather (pairs (tags ones.now) (tags others.now))) }
     ensures value { IfOk result (λ c. c ≡ gather (pairs (tags ones.now) (tags others.now))) }
     ensures cost { ticks.new ≤ ticks.old + 3 * (nodes_all (tags ones.now) * node_costs (tags others.now)) }
@@ -179,16 +179,16 @@ fn meet_members<L: Ledger>(
     let index = Index::over(alloc, others)?;
     let mut met = Vec::new(alloc);
     for one in ones {
-        let places = index.places(alloc, one)?;
-        let pushed = push_row(alloc, &mut met, one, others, &places, ticks);
-        drop(places);
+        let positions = index.positions(alloc, one)?;
+        let pushed = push_row(alloc, &mut met, one, others, &positions, ticks);
+        drop(positions);
         pushed?;
     }
     drop(index);
     Tag::gathered(met)
 }
 
-/// Appends a row to `met`: the intersections of `one` with those of `others` at these places, counted from 1, which the index of `others`
+/// Appends a row to `met`: the intersections of `one` with those of `others` at these positions, counted from 1, which the index of `others`
 /// has found for `one`. Intersections that are `(* set)` are left out. Err if memory ran out, or if a shared part has too many owners to count; then
 /// `met` may have some of them.
 #[cycle(meet)]
@@ -197,18 +197,18 @@ fn push_row<L: Ledger>(
     met: &mut Vec<Tag>,
     one: &Tag,
     others: &[Tag],
-    places: &[usize],
+    positions: &[usize],
     ticks: &mut Ticks<L>,
 ) -> Result<(), AllocError>
-    requires bound { nodes one.now * nodes_all (tags others.now) ≤ most_nodes }
-    requires places { All (λ n. (1 ≤ n) × (n < 1 + length others.now)) places.now }
-    ensures value { OnOk result (met.new.items ≡ met.old.items ++ row (meet one.now) (tags (tags_at others.now places.now))) }
-    ensures cost { ticks.new ≤ ticks.old + 3 * (nodes one.now * node_costs (tags (tags_at others.now places.now))) }
+    requires bound { nodes one.now * nodes_all (tags others.now) ≤ max_nodes }
+    requires positions { All (λ n. (1 ≤ n) × (n < 1 + length others.now)) positions.now }
+    ensures value { OnOk result (met.new.items ≡ met.old.items ++ row (meet one.now) (tags (tags_at others.now positions.now))) }
+    ensures cost { ticks.new ≤ ticks.old + 3 * (nodes one.now * node_costs (tags (tags_at others.now positions.now))) }
     ensures grows { ticks.old ≤ ticks.new }
-    ensures each { OnOk result (ticks.old + length places.now ≤ ticks.new) }
+    ensures each { OnOk result (ticks.old + length positions.now ≤ ticks.new) }
 {
-    for place in places {
-        let member = meet_tags(alloc, one, &others[*place - 1], ticks)?;
+    for position in positions {
+        let member = meet_tags(alloc, one, &others[*position - 1], ticks)?;
         push_kept(met, member)?;
     }
     Ok(())
@@ -230,41 +230,46 @@ impl Tag {
             × (ldepth c ≤ max (ldepth self.now) (ldepth other.now))) }
         ensures too_large { IsErrOf result MeetFault.TooLarge ↔ (1000000 < nodes self.now * nodes other.now) }
     {
-        self.meet_within(alloc, other, MOST_NODES)
+        self.meet_within(alloc, other, MAX_NODES)
     }
 
-    /// Like `meet`, with `most` as the limit of the product instead. `most` must be at most 1,000,000. `Brand` and `Blank` make a count of
-    /// work, which exists only in contracts.
+    /// Like `meet`, with `max_product` as the limit of the product instead. `max_product` must be at most 1,000,000. `Brand` and `Blank` make a count
+    /// of work, which exists only in contracts.
     ///
     /// # Errors
     ///
-    /// `TooLarge` if the product of the numbers of nodes of both tags is over `most`. `Memory` if memory ran out, or if a shared part has too many
-    /// owners to count.
-    pub fn meet_within(&self, alloc: Global, other: &Tag, most: usize) -> Result<Tag, MeetFault>
-        requires { most ≤ 1000000 }
+    /// `TooLarge` if the product of the numbers of nodes of both tags is over `max_product`. `Memory` if memory ran out, or if a shared part has too
+    /// many owners to count.
+    pub fn meet_within(
+        &self,
+        alloc: Global,
+        other: &Tag,
+        max_product: usize,
+    ) -> Result<Tag, MeetFault>
+        requires { max_product ≤ 1000000 }
         ensures value { IfOk result (λ c. c ≡ meet self.now other.now) }
         ensures exact { IfOk result (λ c. (g : Request) → IsRequest g
             → contains c g ≡ (contains self.now g && contains other.now g)) }
         ensures bounds { IfOk result (λ c. (nodes c ≤ nodes self.now * nodes other.now)
             × (ldepth c ≤ max (ldepth self.now) (ldepth other.now))) }
-        ensures too_large { IsErrOf result MeetFault.TooLarge ↔ (most < nodes self.now * nodes other.now) }
+        ensures too_large { IsErrOf result MeetFault.TooLarge ↔ (max_product < nodes self.now * nodes other.now) }
     {
         // `Brand` and `Blank` are for a count of ticks, which exists only in contracts: see `Ticks`.
-        self.meet_with_new_count::<Brand>(alloc, other, most, Blank::new(1))
+        self.meet_with_new_count::<Brand>(alloc, other, max_product, Blank::new(1))
     }
 
     /// Does what `meet_within` does: calls `meet_counted` with a new count of ticks (operations that contracts count). The count exists only in
     /// contracts, and is dropped afterwards. `blank` is a new ledger of the toolchain, to keep the count in; it must be that of `L`. `L` has a name
     /// only in a generic function, such as this one: its caller writes `Brand` for it. Err is `TooLarge` if the product of the numbers of nodes of
-    /// both tags is over `most`, or `Memory`.
+    /// both tags is over `max_product`, or `Memory`.
     fn meet_with_new_count<L: Ledger>(
         &self,
         alloc: Global,
         other: &Tag,
-        most: usize,
+        max_product: usize,
         blank: Blank,
     ) -> Result<Tag, MeetFault>
-        requires most { most ≤ 1000000 }
+        requires max_product { max_product ≤ 1000000 }
         requires name { blank.name ≡ L.name }
         requires parts { blank.parts ≡ L.parts }
         requires some { 0 < blank.parts }
@@ -273,41 +278,41 @@ impl Tag {
             → contains c g ≡ (contains self.now g && contains other.now g)) }
         ensures bounds { IfOk result (λ c. (nodes c ≤ nodes self.now * nodes other.now)
             × (ldepth c ≤ max (ldepth self.now) (ldepth other.now))) }
-        ensures too_large { IsErrOf result MeetFault.TooLarge ↔ (most < nodes self.now * nodes other.now) }
+        ensures too_large { IsErrOf result MeetFault.TooLarge ↔ (max_product < nodes self.now * nodes other.now) }
     {
-        self.meet_counted(alloc, other, most, &mut Ticks::<L>::new(blank))
+        self.meet_counted(alloc, other, max_product, &mut Ticks::<L>::new(blank))
     }
 
     /// Does what `meet_within` does, and adds its work to `ticks`, which exists only in contracts: one for each pair of tags whose
     /// intersection is made, one for each member that is copied, one for each octet of the head of a list in `other` each time that it is
     /// intersected with a list, and three for each octet of its other strings each time that they are intersected with a tag without
-    /// members. It adds at most three times the nodes of this tag times the other's `node_cost`, and at least one. `most` must be at most
+    /// members. It adds at most three times the nodes of this tag times the other's `node_cost`, and at least one. `max_product` must be at most
     /// 1,000,000.
     ///
     /// # Errors
     ///
-    /// `TooLarge` if the product of the numbers of nodes of both tags is over `most`; then nothing is added to `ticks`. `Memory` if memory
+    /// `TooLarge` if the product of the numbers of nodes of both tags is over `max_product`; then nothing is added to `ticks`. `Memory` if memory
     /// ran out, or if a shared part has too many owners to count.
     #[tactic(auto, using(crate::proofs::Exact::meet_exact, crate::proofs::MeetSizes::meet_le, crate::proofs::NormalForms::meet_ldepth))]
     pub fn meet_counted<L: Ledger>(
         &self,
         alloc: Global,
         other: &Tag,
-        most: usize,
+        max_product: usize,
         ticks: &mut Ticks<L>,
     ) -> Result<Tag, MeetFault>
-        requires { most ≤ 1000000 }
+        requires { max_product ≤ 1000000 }
         ensures value { IfOk result (λ c. c ≡ meet self.now other.now) }
         ensures exact { IfOk result (λ c. (g : Request) → IsRequest g
             → contains c g ≡ (contains self.now g && contains other.now g)) }
         ensures bounds { IfOk result (λ c. (nodes c ≤ nodes self.now * nodes other.now)
             × (ldepth c ≤ max (ldepth self.now) (ldepth other.now))) }
-        ensures too_large { IsErrOf result MeetFault.TooLarge ↔ (most < nodes self.now * nodes other.now) }
+        ensures too_large { IsErrOf result MeetFault.TooLarge ↔ (max_product < nodes self.now * nodes other.now) }
         ensures cost { ticks.new ≤ ticks.old + 3 * meet_cost self.now other.now }
         ensures grows { IfOk result (λ c. ticks.old < ticks.new) }
         ensures refused { IsErrOf result MeetFault.TooLarge → ticks.new ≡ ticks.old }
     {
-        if self.nodes() * other.nodes() > most {
+        if self.nodes() * other.nodes() > max_product {
             return Err(MeetFault::TooLarge);
         }
         Ok(meet_tags(alloc, self, other, ticks)?)

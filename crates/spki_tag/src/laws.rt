@@ -4,7 +4,7 @@
 
 ghost use Rattle.std.specs.{Prelude.{◌≡◌, ◌*◌, ◌≤◌, ◌↔◌, ◌&&◌, ℕ, List, None, Some, true, false, length, nat_eq}, List.{starts_with}};
 ghost use Rattle.sexpr_core.specs.Value.{HasOctets, Value, canon};
-ghost use Rattle.spki_tag.specs.Meet.{may_share, places_where, tags_at, least_above, strict_limit, from, meet, nothing, row, StarRule, SetRule, StringRule, PrefixRule, PrefixesApart, RangeRule, PrefixAsRange, OrderingRule, TimesAndDates, ListRule, HeadsApart, ListsAndStrings};
+ghost use Rattle.spki_tag.specs.Meet.{may_share, positions_where, tags_at, least_above, strict_limit, from, meet, nothing, row, StarRule, SetRule, StringRule, PrefixRule, PrefixesApart, RangeRule, PrefixAsRange, OrderingRule, TimesAndDates, ListRule, HeadsApart, ListsAndStrings};
 ghost use Rattle.spki_tag.specs.{Cost.{weight}, Faults.{request_fault, tag_fault, tags_in}, declared.fault.TagFault.{TagFault}};
 ghost use Rattle.spki_tag.specs.{Reading.{normal, IsNormalOf, ReadsAs}, Request.{AreOctets, Request, IsRequest, request_value}};
 ghost use Rattle.spki_tag.specs.Tag.{Tag, IsTag, tag_value, tags, contains, is_above, is_below, is_normal, nodes};
@@ -74,7 +74,7 @@ pub fn prefix_is_range()
 /// starts with the shorter. A prefix and a range are intersected as two ranges. Of two ranges it has their common ordering, the greater lower
 /// limit and the lesser upper limit, unless these exclude each other. Alpha allows every string, so it has the ordering of the other range in
 /// common with it; times and dates have no string in common. Of two lists with the same head it is made member by member, and has the further
-/// members of the longer one, unless the intersection at some place is `(* set)`. Otherwise it is `(* set)`. `specs/Meet.antt` says what each
+/// members of the longer one, unless the intersection at some position is `(* set)`. Otherwise it is `(* set)`. `specs/Meet.antt` says what each
 /// rule is.
 pub fn meet_rules()
     ensures star { StarRule }
@@ -106,15 +106,15 @@ pub fn meet_bounded()
 
 /// If the kinds and strings of two tags show that they have no request in common, their intersection is `(* set)`. Examples are two strings
 /// that differ, and a list and a prefix.
-#[tactic(auto, using(crate::proofs::Places::meet_apart))]
+#[tactic(auto, using(crate::proofs::Positions::meet_apart))]
 pub fn meet_apart()
     ensures { (t u : Tag) → may_share t u ≡ false → meet t u ≡ nothing }
 {}
 
 /// To intersect a tag with several tags, it is enough to take those whose kind and string show that they may have a request in common with
-/// it: the intersections that are not `(* set)` are the same, in the same order. Places are positions among the tags, counted from 1.
-#[tactic(auto, using(crate::proofs::Places::row_at_places))]
-pub fn row_at_places()
+/// it: the intersections that are not `(* set)` are the same, in the same order. Positions among the tags are counted from 1.
+#[tactic(auto, using(crate::proofs::Positions::row_at_positions))]
+pub fn row_at_positions()
     ensures { (t : Tag) (us : List Tag)
-        → row (meet t) (tags us) ≡ row (meet t) (tags (tags_at us (places_where (may_share t) 1 us))) }
+        → row (meet t) (tags us) ≡ row (meet t) (tags (tags_at us (positions_where (may_share t) 1 us))) }
 {}

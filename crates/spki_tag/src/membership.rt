@@ -13,7 +13,7 @@ use std::sync::ledger::{Blank, Ledger};
 
 impl Tag {
     /// Whether the tag contains a request (RFC 2693, section 6.3.1). A list contains the lists with the same head and at
-    /// least as many members, if each of its members contains the one at the same place. Further members of the request
+    /// least as many members, if each of its members contains the one at the same position. Further members of the request
     /// may be anything.
     pub fn holds(&self, request: &Ground) -> bool
         ensures { result ≡ contains self.now request.now }
@@ -67,7 +67,7 @@ impl Tag {
     }
 }
 
-/// Whether each tag contains the request at the same place: `members` are those of a list that is a tag, `requests` those of a list that is
+/// Whether each tag contains the request at the same position: `members` are those of a list that is a tag, `requests` those of a list that is
 /// a request. False if there are fewer requests than tags. Further requests may be anything. The work is added to `ticks`, as by
 /// `holds_counted`: at most the weights of the tags, and if the answer is true at least what has to be tested of each.
 #[cycle(holds)]

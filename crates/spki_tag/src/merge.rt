@@ -1,11 +1,11 @@
-//! Merges two lists of places in an index, in increasing order.
+//! Merges two lists of positions in an index, in increasing order.
 
 ghost use Rattle.std.specs.Prelude.{◌≡◌, IfOk};
-ghost use Rattle.spki_tag.specs.Places.{merge};
+ghost use Rattle.spki_tag.specs.Positions.{merge};
 
 use std::alloc::{AllocError, Global};
 
-/// Merges two increasing lists, such as places in an index or numbers of entries, in increasing order. A number that is in both lists is
+/// Merges two increasing lists, such as positions in an index or numbers of entries, in increasing order. A number that is in both lists is
 /// in the result twice.
 ///
 /// # Errors

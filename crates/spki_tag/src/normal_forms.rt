@@ -2,7 +2,7 @@
 //! list has a member `(* set)`. A tag and its normal form contain the same requests.
 
 ghost use Rattle.std.specs.{Prelude.{◌≡◌, ◌≤◌, ◌++◌, IfOk, OnOk}, Arc.{arc_slice_items}};
-ghost use Rattle.spki_tag.specs.{Request.{IsHead}, Tag.{IsNormalTag, tags, list, nodes, most_nodes}, Reading.{AreNormal, set_of}};
+ghost use Rattle.spki_tag.specs.{Request.{IsHead}, Tag.{IsNormalTag, tags, list, nodes, max_nodes}, Reading.{AreNormal, set_of}};
 ghost use Rattle.spki_tag.specs.Meet.{listed, members as in_place};
 
 use crate::form::{any_is_everything, any_is_nothing};
@@ -46,7 +46,7 @@ impl Tag {
     #[tactic(auto, using(crate::proofs::NormalForms::any_nothing))]
     pub(crate) fn list_of(head: SharedOctets, further: Vec<Tag>) -> Result<Tag, AllocError>
         requires head { IsHead (arc_slice_items head) }
-        requires room { nodes (list (arc_slice_items head) (tags further.items)) ≤ most_nodes }
+        requires bound { nodes (list (arc_slice_items head) (tags further.items)) ≤ max_nodes }
         requires normal { AreNormal further.items }
         ensures { IfOk result (λ t. t ≡ listed (arc_slice_items head) further.items) }
     {

@@ -106,7 +106,7 @@ impl Clone for Prefix {
 
 /// The least string above all that start with `octets`: these without their last octets `FF`, with the last octet then
 /// increased by one, such as `62` for `61 FF`. None if no octet is left: then no string is above all. Err if memory ran out.
-#[tactic(auto, using(crate::proofs::Limits::least_above_less, crate::proofs::Limits::least_above_most))]
+#[tactic(auto, using(crate::proofs::Limits::least_above_less, crate::proofs::Limits::least_above_greatest))]
 fn above_all(alloc: Global, octets: &[u8]) -> Result<Option<SharedOctets>, AllocError>
     ensures { IfOk result (λ above. option_map arc_slice_items above ≡ least_above octets.now) }
 {

@@ -7,7 +7,7 @@
 ghost use Rattle.std.specs.Prelude.{◌≡◌, ◌+◌, ◌≤◌, ◌<◌, ◌∷◌, List, Some, None, IfOk, IfErr, IfSome, IsSome, IsOkUnless, codes};
 ghost use Rattle.sexpr_core.specs.Value.{Value, plain, group, values, node};
 ghost use Rattle.spki_tag.specs.{Leaves.{leaf_tag}, Tag.{Tag, IsTag, tag_value, starred, nodes}, Request.{IsHead}};
-ghost use Rattle.spki_tag.specs.Reading.{ReadsAs, IsNoTag, most_read, IsRead, AreRead, IsPut, ArePut, fault_after, fault_after_all};
+ghost use Rattle.spki_tag.specs.Reading.{ReadsAs, IsNoTag, max_read, IsRead, AreRead, IsPut, ArePut, fault_after, fault_after_all};
 ghost use Rattle.spki_tag.specs.Faults.{IsNamed, group_fault, list_fault, prefix_fault, tag_fault};
 
 use crate::fault::TagFault;
@@ -23,7 +23,7 @@ use std::alloc::Global;
 use std::sync::ArcSlice;
 
 /// The most nodes that a tag may have as it is written.
-const MOST_READ: usize = 1024;
+const MAX_READ: usize = 1024;
 
 /// The octets of `first`, the first member of a list that is read as a tag or as a request. Err is `ListHead` if it is a list, and `Hint`
 /// if it has a display hint.
@@ -71,7 +71,7 @@ fn read_tag(alloc: Global, value: &Node<'_, '_>, used: usize) -> Result<(Tag, us
     ensures read { IfOk result (λ p. IsRead used value.now p.0 p.1) }
     ensures named { IfErr result (λ fault. IsNamed fault (fault_after used value.now)) }
 {
-    if used >= MOST_READ {
+    if used >= MAX_READ {
         return Err(TagFault::TooManyNodes);
     }
     match value.kind() {
@@ -89,7 +89,7 @@ fn read_tag(alloc: Global, value: &Node<'_, '_>, used: usize) -> Result<(Tag, us
 /// first fault of the form or of a member, one of those that `Tag::of` lists, or `Memory`.
 #[cycle(read)]
 fn read_list(alloc: Global, members: Members<'_, '_>, used: usize) -> Result<(Tag, usize), TagFault>
-    requires { used < most_read }
+    requires { used < max_read }
     ensures read { IfOk result (λ p. IsRead used (group members.entry) p.0 p.1) }
     ensures named { IfErr result (λ fault. IsNamed fault (fault_after used (group members.entry))) }
 {
@@ -115,7 +115,7 @@ fn read_starred(
     further: Members<'_, '_>,
     used: usize,
 ) -> Result<(Tag, usize), TagFault>
-    requires { used < most_read }
+    requires { used < max_read }
     ensures read { IfOk result (λ p. IsRead used (group (plain (codes "*") ∷ further.entry)) p.0 p.1) }
     ensures named { IfErr result (λ fault. IsNamed fault (fault_after used (group (plain (codes "*") ∷ further.entry)))) }
 {
@@ -139,7 +139,7 @@ fn read_form(
     further: Members<'_, '_>,
     used: usize,
 ) -> Result<(Tag, usize), TagFault>
-    requires { used < most_read }
+    requires { used < max_read }
     ensures read { IfOk result (λ p. IsRead used (starred word.now (values further.entry)) p.0 p.1) }
     ensures named { IfErr result (λ fault. IsNamed fault (fault_after used (starred word.now (values further.entry)))) }
 {
@@ -159,12 +159,12 @@ fn read_form(
 /// lists, or `Memory`.
 #[cycle(read)]
 fn read_set(alloc: Global, further: Members<'_, '_>, used: usize) -> Result<(Tag, usize), TagFault>
-    requires { used < most_read }
+    requires { used < max_read }
     ensures read { IfOk result (λ p. IsRead used (starred (codes "set") (values further.entry)) p.0 p.1) }
     ensures named { IfErr result (λ fault. IsNamed fault (fault_after used (starred (codes "set") (values further.entry)))) }
 {
-    // Room for the members as written. The members of inner sets may need more: then the vector grows, up to twice what they take.
-    let mut members = Vec::with_capacity(alloc, further.len().min(MOST_READ - used))?;
+    // Capacity for the members as written. The members of inner sets may need more: then the vector grows, up to twice what they take.
+    let mut members = Vec::with_capacity(alloc, further.len().min(MAX_READ - used))?;
     let after = put_members(alloc, further, used + 1, &mut members)?;
     members.shrink_to_fit();
     Ok((Tag::set_of(members)?, after))
@@ -193,7 +193,7 @@ fn put_members(
     used: usize,
     members: &mut Vec<Tag>,
 ) -> Result<usize, TagFault>
-    requires { used ≤ most_read }
+    requires { used ≤ max_read }
     ensures read { IfOk result (ArePut used values.entry members.old.items members.new.items) }
     ensures named { IfErr result (λ fault. IsNamed fault (fault_after_all used values.entry)) }
 {
@@ -218,11 +218,11 @@ fn put_member(
     used: usize,
     members: &mut Vec<Tag>,
 ) -> Result<usize, TagFault>
-    requires { used ≤ most_read }
+    requires { used ≤ max_read }
     ensures read { IfOk result (IsPut used value.now members.old.items members.new.items) }
     ensures named { IfErr result (λ fault. IsNamed fault (fault_after used value.now)) }
 {
-    if used >= MOST_READ {
+    if used >= MAX_READ {
         return Err(TagFault::TooManyNodes);
     }
     match set_members(value) {
@@ -248,12 +248,12 @@ fn read_plain_list(
     further: Members<'_, '_>,
     used: usize,
 ) -> Result<(Tag, usize), TagFault>
-    requires room { used < most_read }
+    requires bound { used < max_read }
     requires head { IsHead head.now }
     ensures read { IfOk result (λ p. IsRead used (group (plain head.now ∷ further.entry)) p.0 p.1) }
     ensures named { IfErr result (λ fault. IsNamed fault (fault_after used (group (plain head.now ∷ further.entry)))) }
 {
-    if used + 1 >= MOST_READ {
+    if used + 1 >= MAX_READ {
         return Err(TagFault::TooManyNodes);
     }
     let (members, after) = read_members(alloc, further, used + 2)?;
@@ -269,11 +269,11 @@ fn read_members(
     members: Members<'_, '_>,
     used: usize,
 ) -> Result<(Vec<Tag>, usize), TagFault>
-    requires { used ≤ most_read }
+    requires { used ≤ max_read }
     ensures read { IfOk result (λ p. AreRead used members.entry p.0.items p.1) }
     ensures named { IfErr result (λ fault. IsNamed fault (fault_after_all used members.entry)) }
 {
-    let mut tags = Vec::with_capacity(alloc, members.len().min(MOST_READ - used))?;
+    let mut tags = Vec::with_capacity(alloc, members.len().min(MAX_READ - used))?;
     let mut counted = used;
     let mut left = members;
     while let Some((first, further)) = left.split_first() {
@@ -299,7 +299,7 @@ impl Tag {
     #[tactic(auto, using(crate::proofs::Named::tags_read, crate::proofs::TagReading::members_read, crate::proofs::Faultless::tag_refused))]
     pub fn of(alloc: Global, value: &Node<'_, '_>) -> Result<Tag, TagFault>
         ensures read { IfOk result (λ tag. ReadsAs value.now tag) }
-        ensures only { (t : Tag) → IsTag t → nodes t ≤ most_read → tag_value t ≡ value.now
+        ensures only { (t : Tag) → IsTag t → nodes t ≤ max_read → tag_value t ≡ value.now
             → IsOkUnless result TagFault.Memory }
         ensures refused { IfErr result (λ fault. IsNoTag fault value.now) }
         ensures named { IfErr result (λ fault. IsNamed fault (tag_fault value.now)) }
@@ -318,7 +318,7 @@ impl Tag {
         requires { IsSome (node document.now n.0) }
         ensures read { IfSome (node document.now n.0) (λ value. IfOk result (λ tag. ReadsAs value tag)) }
         ensures only { IfSome (node document.now n.0) (λ value.
-            (t : Tag) → IsTag t → nodes t ≤ most_read → tag_value t ≡ value → IsOkUnless result TagFault.Memory) }
+            (t : Tag) → IsTag t → nodes t ≤ max_read → tag_value t ≡ value → IsOkUnless result TagFault.Memory) }
         ensures refused { IfSome (node document.now n.0) (λ value. IfErr result (λ fault. IsNoTag fault value)) }
         ensures named { IfSome (node document.now n.0) (λ value. IfErr result (λ fault. IsNamed fault (tag_fault value))) }
         ensures faultless { IfSome (node document.now n.0) (λ value. IfOk result (λ tag. tag_fault value ≡ None)) }

@@ -144,9 +144,9 @@ impl Tag {
 /// The sum of the numbers of nodes of these tags. The sum must be at most 1,000,000, so no addition overflows; the clause `few` repeats
 /// that for the callers.
 fn nodes_of(members: &[Tag]) -> usize
-    requires { spec.nodes_all (spec.tags members.now) ≤ spec.most_nodes }
+    requires { spec.nodes_all (spec.tags members.now) ≤ spec.max_nodes }
     ensures count { result ≡ spec.nodes_all (spec.tags members.now) }
-    ensures few { result ≤ spec.most_nodes }
+    ensures few { result ≤ spec.max_nodes }
 {
     let mut sum = 0;
     for member in members {

@@ -15,7 +15,7 @@ asked_case entries items question = record {
   request = question.request;
   moment = question.moment;
   policy = Strict;
-  most_nodes = 1000000;
-  most_work = 2300000000;
+  max_nodes = 1000000;
+  max_work = 2300000000;
   uncounted = 1000000;
 }

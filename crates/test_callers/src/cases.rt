@@ -58,8 +58,8 @@ pub fn case_of<'a>(
         request,
         moment,
         policy: Policy::Strict,
-        most_nodes: 1_000_000,
-        most_work: 2_300_000_000,
+        max_nodes: 1_000_000,
+        max_work: 2_300_000_000,
         uncounted: 1_000_000,
     })
 }

@@ -27,7 +27,7 @@ pub enum TextFault {
     Memory,
 }
 
-/// Reads the whole text that a client sends, of at most `most` octets.
+/// Reads the whole text that a client sends, of at most `max_octets` octets.
 ///
 /// # Errors
 ///
@@ -35,17 +35,17 @@ pub enum TextFault {
 pub fn text_from<R: Read>(
     alloc: Global,
     client: &mut Metered<R>,
-    most: usize,
+    max_octets: usize,
 ) -> Result<Vec<u8>, TextFault>
     ensures whole { IfOk result (λ text. IfSome (R.remaining (inner_of client.old)) (λ octets. octets ≡ text.items)) }
-    ensures short { IfOk result (λ text. vec_len text ≤ most) }
+    ensures short { IfOk result (λ text. vec_len text ≤ max_octets) }
     ensures broken { IsErrOf result TextFault.Broken → 0 < faults_of client.new }
     ensures slow { IsErrOf result TextFault.Slow → (faults_of client.new ≡ 0) × (asks_of client.new ≡ 2097152) }
     ensures too_long { IsErrOf result TextFault.TooLong
-        → IfSome (R.remaining (inner_of client.old)) (λ octets. most < length octets) }
+        → IfSome (R.remaining (inner_of client.old)) (λ octets. max_octets < length octets) }
 {
     client.restart();
-    match read_whole(alloc, client, most) {
+    match read_whole(alloc, client, max_octets) {
         Ok(text) => Ok(text),
         Err(ReadFault::Failed) if client.faults() == 0 => Err(TextFault::Slow),
         Err(ReadFault::Failed) => Err(TextFault::Broken),

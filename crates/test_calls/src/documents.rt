@@ -46,22 +46,22 @@ impl<'x> Called<'x> for Doc<'_> {
 }
 
 /// A line with the number of the document's root, then a line for each number from 0 on, up to and with the first that is no node: the fields
-/// of its line are `None` and `-`. `most` is the number of octets of the text, which is at least the number of nodes.
-fn nodes(alloc: Global, document: &Doc, most: usize) -> Reply {
+/// of its line are `None` and `-`. `max_number` is the number of octets of the text, which is at least the number of nodes.
+fn nodes(alloc: Global, document: &Doc, max_number: usize) -> Reply {
     let mut out = format!(in alloc; "root {}\n", document.root().0)?.into_bytes();
-    push_nodes(alloc, &mut out, document, most)?;
+    push_nodes(alloc, &mut out, document, max_number)?;
     Ok(out)
 }
 
-/// Appends a line for each number of a node from 0 on, up to and with the first number that is no node, but at most up to `most`. Err if memory
+/// Appends a line for each number of a node from 0 on, up to and with the first number that is no node, but at most up to `max_number`. Err if memory
 /// ran out.
 fn push_nodes(
     alloc: Global,
     out: &mut Vec<u8>,
     document: &Doc,
-    most: usize,
+    max_number: usize,
 ) -> Result<(), AllocError> {
-    for n in 0..=most {
+    for n in 0..=max_number {
         push_node(alloc, out, document, NodeId(n))?;
         if document.start(NodeId(n)).is_none() {
             break;

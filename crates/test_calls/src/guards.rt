@@ -159,8 +159,8 @@ fn of_texts(alloc: Global, name: &str, guard: &Guard, texts: Texts, by: &[Vec<u8
     reply
 }
 
-/// Reads a question for the guard from its texts. Its signatures are marked as valid at the places, from 0, at which `marks` has the octet
-/// `1`. Places without a signature are ignored. Err is the fault if the question is refused.
+/// Reads a question for the guard from its texts. Its signatures are marked as valid at the indices, from 0, at which `marks` has the octet
+/// `1`. Indices without a signature are ignored. Err is the fault if the question is refused.
 fn marked<'a>(
     alloc: Global,
     guard: &'a Guard,
@@ -172,11 +172,11 @@ fn marked<'a>(
     Ok(asked)
 }
 
-/// Marks the signatures of a question as valid at the places, from 0, at which `marks` has the octet `1`.
+/// Marks the signatures of a question as valid at the indices, from 0, at which `marks` has the octet `1`.
 fn mark_all(asked: &mut PreparedQuestion, marks: &[u8]) {
-    for (place, octet) in marks.iter().enumerate() {
+    for (index, octet) in marks.iter().enumerate() {
         if *octet == b'1' {
-            asked.mark(place);
+            asked.mark(index);
         }
     }
 }

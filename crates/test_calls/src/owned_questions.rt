@@ -36,12 +36,12 @@ fn opened(alloc: Global, texts: &[Vec<u8>]) -> Result<OwnedQuestion, Failure> {
     Ok(opened)
 }
 
-/// Marks as valid the signatures at the places, from 0, at which `marks` has the digit `1`. Returns false if one of these places has no
+/// Marks as valid the signatures at the indices, from 0, at which `marks` has the digit `1`. Returns false if one of these indices has no
 /// signature; the others are marked all the same.
 pub fn mark_all(opened: &mut OwnedQuestion, marks: &[u8]) -> bool {
     let mut has_all = true;
-    for (place, octet) in marks.iter().enumerate() {
-        if *octet == b'1' && !opened.mark(place) {
+    for (index, octet) in marks.iter().enumerate() {
+        if *octet == b'1' && !opened.mark(index) {
             has_all = false;
         }
     }

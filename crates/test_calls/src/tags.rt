@@ -16,7 +16,7 @@ pub(crate) fn call(alloc: Global, name: &str, texts: &[Vec<u8>]) -> Option<Reply
         | "Tag::meet"
         | "Tag::meet_within"
         | "Tag::node_cost"
-        | "Index::places" => Some(call_on(alloc, read::<Tag>(alloc, at(texts, 0)), name, texts)),
+        | "Index::positions" => Some(call_on(alloc, read::<Tag>(alloc, at(texts, 0)), name, texts)),
         "merged" => Some(merge(alloc, at(texts, 0), at(texts, 1))),
         _ => windows::call(alloc, name, texts),
     }
@@ -60,26 +60,26 @@ fn with_other(alloc: Global, name: &str, tag: &Tag, texts: &[Vec<u8>]) -> Reply 
     reply
 }
 
-/// Does the call with this name on two tags. The `_` arm is `Index::places`. `most` is for `Tag::meet_within`: the limit on
+/// Does the call with this name on two tags. The `_` arm is `Index::positions`. `max_product` is for `Tag::meet_within`: the limit on
 /// the product of the tags' numbers of nodes, in digits. A number over 1,000,000, the greatest limit that it allows, or no number, is 1,000,000.
-fn of_both(alloc: Global, name: &str, tag: &Tag, other: &Tag, most: &[u8]) -> Reply {
+fn of_both(alloc: Global, name: &str, tag: &Tag, other: &Tag, max_product: &[u8]) -> Reply {
     match name {
         "Tag::same" => answer(alloc, tag.same(other)),
         "Tag::meet" => answer(alloc, tag.meet(alloc, other)),
         "Tag::meet_within" => {
-            let most = number(most).min(1_000_000);
-            answer(alloc, tag.meet_within(alloc, other, most))
+            let max_product = number(max_product).min(1_000_000);
+            answer(alloc, tag.meet_within(alloc, other, max_product))
         }
-        _ => places(alloc, tag, other),
+        _ => positions(alloc, tag, other),
     }
 }
 
-/// The places, from 1, of the members of `set` that may have a request in common with `tag`, as an index of the set finds them.
-fn places(alloc: Global, set: &Tag, tag: &Tag) -> Reply {
+/// The positions, from 1, of the members of `set` that may have a request in common with `tag`, as an index of the set finds them.
+fn positions(alloc: Global, set: &Tag, tag: &Tag) -> Reply {
     let index = Index::of(alloc, set)?;
-    let places = index.places(alloc, tag);
+    let positions = index.positions(alloc, tag);
     drop(index);
-    answer(alloc, places)
+    answer(alloc, positions)
 }
 
 /// Merges two increasing lists of numbers below 256 by `spki_tag::merged`. Each list is given as octets, one for each number.

@@ -10,17 +10,17 @@ use spki_tag::{Ground, Tag};
 use std::alloc::Global;
 use std::str;
 
-/// The text at a place, from 0. An empty text if the row has fewer texts.
-pub fn at(texts: &[Vec<u8>], place: usize) -> &[u8] {
-    match texts.get(place) {
+/// The text at an index, from 0. An empty text if the row has fewer texts.
+pub fn at(texts: &[Vec<u8>], index: usize) -> &[u8] {
+    match texts.get(index) {
         Some(text) => text.as_slice(),
         None => b"",
     }
 }
 
-/// The texts from a place, from 0, on. Empty if the row has fewer texts.
-pub fn texts_from(texts: &[Vec<u8>], place: usize) -> &[Vec<u8>] {
-    match texts.get(place..) {
+/// The texts from an index, from 0, on. Empty if the row has fewer texts.
+pub fn texts_from(texts: &[Vec<u8>], index: usize) -> &[Vec<u8>] {
+    match texts.get(index..) {
         Some(rest) => rest,
         None => &[],
     }

@@ -196,8 +196,8 @@ impl<'x> Called<'x> for Vec<Step<'x>> {
 /// `steps` are the other tuples.
 fn owned_chain<'x>(alloc: Global, steps: &[Step<'x>], texts: &'x [Vec<u8>]) -> Reply {
     let first = five(alloc, texts_from(texts, 2))?;
-    let most = number(at(texts, 0)).min(1_000_000);
+    let max_product = number(at(texts, 0)).min(1_000_000);
     let mut work = Work::new(bound(at(texts, 1)));
-    let fold = fold_owned(alloc, first, steps, Policy::Open, most, &mut work);
+    let fold = fold_owned(alloc, first, steps, Policy::Open, max_product, &mut work);
     answer(alloc, fold)
 }

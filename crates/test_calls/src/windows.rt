@@ -77,7 +77,7 @@ fn is_owner(principal: &Principal, key: &Key) -> bool {
     }
 }
 
-/// The place, from 0, of the first key of the texts that has the digest `SHARED` by `is_owner`, found by the library's `first_named`. None if
+/// The index, from 0, of the first key of the texts that has the digest `SHARED` by `is_owner`, found by the library's `first_named`. None if
 /// there is none. Since two keys have this digest, rows show that the library takes the first of several.
 fn first_named(alloc: Global, texts: &[Vec<u8>]) -> Reply {
     let keys = keys(alloc, texts)?;

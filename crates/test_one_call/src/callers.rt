@@ -52,11 +52,11 @@ fn member(alloc: Global, text: &[u8]) -> Reply {
     }
 }
 
-/// The whole text that `text_from` reads, of at most `most` octets. Err is its fault, which becomes the answer in words unless it is `Memory`
+/// The whole text that `text_from` reads, of at most `max_octets` octets. Err is its fault, which becomes the answer in words unless it is `Memory`
 /// (`false`: it is not). The client is a reader in memory that gives `text`.
-fn whole(alloc: Global, text: &[u8], most: usize) -> Reply {
+fn whole(alloc: Global, text: &[u8], max_octets: usize) -> Reply {
     let mut client = Metered::new(text);
-    match text_from(alloc, &mut client, most) {
+    match text_from(alloc, &mut client, max_octets) {
         Ok(text) => Ok(text),
         Err(TextFault::Memory) => Err(Failure::Memory),
         Err(fault) => Err(Failure::fault("Text", &fault, false)),

@@ -97,8 +97,8 @@ fn answer_to(alloc: Global, guard: &SharedGuard, query: Query, texts: &[Vec<u8>]
     }
 }
 
-/// Marks signatures of a question as valid, those at whose places `marks` has the digit 1, and returns what answers it. `other marks` if a
-/// mark has no signature at its place. For a decision it is `other answers` if `is_granted` or the grant is not as the decision says, or if a
+/// Marks signatures of a question as valid, those at whose indices `marks` has the digit 1, and returns what answers it. `other marks` if a
+/// mark has no signature at its index. For a decision it is `other answers` if `is_granted` or the grant is not as the decision says, or if a
 /// granted question is not possible. Err if memory ran out, also for the line of a decision, which has a grant nevertheless.
 fn answer_of(alloc: Global, query: Query, mut opened: OwnedQuestion, marks: &[u8]) -> Reply {
     if !mark_all(&mut opened, marks) {

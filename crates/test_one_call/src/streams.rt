@@ -29,9 +29,9 @@ pub(crate) fn call(alloc: Global, name: &str, texts: &[Vec<u8>]) -> Option<Reply
     }
 }
 
-/// What a `TestStream` returns when it has no room left.
+/// What a `TestStream` returns when it has no capacity left.
 #[derive(Clone, Copy)]
-enum WithoutRoom {
+enum WithoutCapacity {
     /// An error.
     Fails,
     /// That it was interrupted.
@@ -40,13 +40,13 @@ enum WithoutRoom {
     Stops,
 }
 
-impl WithoutRoom {
-    /// What a stream without room does, by a word: `fails` means `Fails`, `interrupted` means `IsInterrupted`, any other `Stops`.
-    fn of(word: &[u8]) -> WithoutRoom {
+impl WithoutCapacity {
+    /// What a stream without capacity does, by a word: `fails` means `Fails`, `interrupted` means `IsInterrupted`, any other `Stops`.
+    fn of(word: &[u8]) -> WithoutCapacity {
         match word_of(word) {
-            "fails" => WithoutRoom::Fails,
-            "interrupted" => WithoutRoom::IsInterrupted,
-            _ => WithoutRoom::Stops,
+            "fails" => WithoutCapacity::Fails,
+            "interrupted" => WithoutCapacity::IsInterrupted,
+            _ => WithoutCapacity::Stops,
         }
     }
 
@@ -55,9 +55,9 @@ impl WithoutRoom {
         ensures { IfOk result (λ count. count ≡ 0) }
     {
         match self {
-            WithoutRoom::Fails => Err(Error::from(ErrorKind::Other)),
-            WithoutRoom::IsInterrupted => Err(Error::from(ErrorKind::Interrupted)),
-            WithoutRoom::Stops => Ok(0),
+            WithoutCapacity::Fails => Err(Error::from(ErrorKind::Other)),
+            WithoutCapacity::IsInterrupted => Err(Error::from(ErrorKind::Interrupted)),
+            WithoutCapacity::Stops => Ok(0),
         }
     }
 }
@@ -72,9 +72,9 @@ struct TestStream<'a> {
     /// The most octets of each call.
     step: usize,
     /// The most octets of all calls that follow, together.
-    room: usize,
-    /// What a read or write returns when `room` is 0.
-    without_room: WithoutRoom,
+    capacity: usize,
+    /// What a read or write returns when `capacity` is 0.
+    without_capacity: WithoutCapacity,
     /// The number of reads and writes.
     calls: usize,
     /// The length, in octets, of the buffer of the last read or write.
@@ -86,15 +86,15 @@ struct TestStream<'a> {
 }
 
 impl<'a> TestStream<'a> {
-    /// Makes a stream that gives `text`, from three of `texts`: the most octets of a call, the room, and what a call without room returns.
+    /// Makes a stream that gives `text`, from three of `texts`: the most octets of a call, the capacity, and what a call without capacity returns.
     /// The first two are numbers; any other text, or none, is no limit. A fourth, `fails`, means that each flush fails.
     fn new(alloc: Global, text: &'a [u8], texts: &[Vec<u8>]) -> TestStream<'a> {
         TestStream {
             text,
             taken: Vec::new(alloc),
             step: number(at(texts, 0)),
-            room: number(at(texts, 1)),
-            without_room: WithoutRoom::of(at(texts, 2)),
+            capacity: number(at(texts, 1)),
+            without_capacity: WithoutCapacity::of(at(texts, 2)),
             calls: 0,
             last: 0,
             flushes: 0,
@@ -102,43 +102,43 @@ impl<'a> TestStream<'a> {
         }
     }
 
-    /// How many octets a call passes on, if its buffer and the text allow at most `most`.
-    fn count(&self, most: usize) -> usize
-        ensures { result ≤ most }
+    /// How many octets a call passes on, if its buffer and the text allow at most `max_octets`.
+    fn count(&self, max_octets: usize) -> usize
+        ensures { result ≤ max_octets }
     {
-        self.step.min(self.room).min(most)
+        self.step.min(self.capacity).min(max_octets)
     }
 }
 
 impl Read for TestStream<'_> {
-    /// Counts the call, and reads some octets of the text, within the step, the room and the buffer. Without room it returns what
-    /// `without_room` says.
+    /// Counts the call, and reads some octets of the text, within the step, the capacity and the buffer. Without capacity it returns what
+    /// `without_capacity` says.
     fn read(&mut self, buf: &mut [u8]) -> io::Result<usize> {
         self.calls = self.calls.saturating_add(1);
         self.last = buf.len();
-        if self.room == 0 {
-            return self.without_room.answer();
+        if self.capacity == 0 {
+            return self.without_capacity.answer();
         }
         let count = self.count(buf.len().min(self.text.len()));
         let (given, rest) = self.text.split_at(count);
         buf[..count].copy_from_slice(given);
         self.text = rest;
-        self.room = self.room.saturating_sub(count);
+        self.capacity = self.capacity.saturating_sub(count);
         Ok(count)
     }
 }
 
 impl Write for TestStream<'_> {
-    /// Counts the call, and takes some of the octets, within the step and the room. Without room it returns what `without_room` says.
+    /// Counts the call, and takes some of the octets, within the step and the capacity. Without capacity it returns what `without_capacity` says.
     fn write(&mut self, buf: &[u8]) -> io::Result<usize> {
         self.calls = self.calls.saturating_add(1);
         self.last = buf.len();
-        if self.room == 0 {
-            return self.without_room.answer();
+        if self.capacity == 0 {
+            return self.without_capacity.answer();
         }
         let count = self.count(buf.len());
         self.taken.extend_from_slice(&buf[..count])?;
-        self.room = self.room.saturating_sub(count);
+        self.capacity = self.capacity.saturating_sub(count);
         Ok(count)
     }
 

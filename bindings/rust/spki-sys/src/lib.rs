@@ -43,15 +43,15 @@ pub const STRICT: c_int = 0;
 pub const ALLOW_SHA1: c_int = 1;
 
 /// The most octets of a question that limits may set.
-pub const MOST_OCTETS: usize = 1_048_576;
+pub const MAX_OCTETS: usize = 1_048_576;
 /// The most nodes that limits may set.
-pub const MOST_NODES: usize = 1_000_000;
+pub const MAX_NODES: usize = 1_000_000;
 /// The most work that limits may set.
-pub const MOST_WORK: usize = 1_000_000_000;
+pub const MAX_WORK: usize = 1_000_000_000;
 /// The octets of the usual limit of an answer.
 pub const USUAL_ANSWER: usize = 1_048_576;
 /// The most octets that the safe interface lets the limit of an answer be.
-pub const MOST_ANSWER: usize = 268_435_456;
+pub const MAX_ANSWER: usize = 268_435_456;
 
 /// `struct spki_text`.
 #[repr(C)]

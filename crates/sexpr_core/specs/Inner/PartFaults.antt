@@ -8,18 +8,18 @@ pub record Barred (T : List ℕ → Type 0) (xs : List ℕ) : Type 0 where
 
 -- The octets xs are at offset `at`. Those before offset k begin a text of S, and no text of T continues with the octet at k.
 pub record IsBad (T S : List ℕ → Type 0) (at : ℕ) (xs : List ℕ) (k : ℕ) : Type 0 where
-  pub place : ℕ
-  pub offset : k ≡ at + place
-  pub within : place < length xs
-  pub before : Front S (take place xs)
-  pub stops : Barred T (take (suc place) xs)
+  pub index : ℕ
+  pub offset : k ≡ at + index
+  pub within : index < length xs
+  pub before : Front S (take index xs)
+  pub stops : Barred T (take (suc index) xs)
 
--- Some text of T continues with the octet at this place, and no text of S does.
+-- Some text of T continues with the octet at this index, and no text of S does.
 pub record IsDeep (T S : List ℕ → Type 0) (xs : List ℕ) : Type 0 where
-  pub place : ℕ
-  pub within : place < length xs
-  pub before : Front T (take (suc place) xs)
-  pub stops : Barred S (take (suc place) xs)
+  pub index : ℕ
+  pub within : index < length xs
+  pub before : Front T (take (suc index) xs)
+  pub stops : Barred S (take (suc index) xs)
 
 -- What a fault means for the octets xs at offset `at`, if a text of some set is read there. T is that set, and S the part of
 -- it within the limit on depth.

@@ -59,73 +59,73 @@ abbrev pub GoesString : List ℕ → Type 0
 GoesString part = Begins IsStringPart part ⊎ IsUnclosedString part
 
 -- a value in which at most so many lists are open at once
-pub record IsValuePart (room : ℕ) (text : List ℕ) : Type 0 where
+pub record IsValuePart (max_depth : ℕ) (text : List ℕ) : Type 0 where
   pub ends_token : Bool
   pub value : Value
   pub meant : SpellsAs ends_token text value
-  pub fits : depth value ≤ room
+  pub fits : depth value ≤ max_depth
 
 -- a value that ends inside a string between marks, with at most so many lists open at once
-pub record IsUnclosedValue (room : ℕ) (text : List ℕ) : Type 0 where
+pub record IsUnclosedValue (max_depth : ℕ) (text : List ℕ) : Type 0 where
   pub lists : List Values
-  pub fits : depth_open lists ≤ room
+  pub fits : depth_open lists ≤ max_depth
   pub unclosed : UnclosedValue lists text
 
 -- a beginning of a value, or a value that ends inside a string between marks
 abbrev pub GoesValue : ℕ → List ℕ → Type 0
-GoesValue room part = Begins (IsValuePart room) part ⊎ IsUnclosedValue room part
+GoesValue max_depth part = Begins (IsValuePart max_depth) part ⊎ IsUnclosedValue max_depth part
 
 -- members and a closing parenthesis
-pub record IsMembersPart (room : ℕ) (text : List ℕ) : Type 0 where
+pub record IsMembersPart (max_depth : ℕ) (text : List ℕ) : Type 0 where
   pub inside : List ℕ
   pub items : Values
   pub spelled : text ≡ inside ++ char ")" ∷ []
   pub meant : SpellsMembers inside items
-  pub fits : depths items ≤ room
+  pub fits : depths items ≤ max_depth
 
 -- members that end inside a string between marks, with at most so many lists open at once
-pub record AreUnclosedMembers (room : ℕ) (text : List ℕ) : Type 0 where
+pub record AreUnclosedMembers (max_depth : ℕ) (text : List ℕ) : Type 0 where
   pub items : Values
   pub lists : List Values
-  pub few : depths items ≤ room
-  pub fits : depth_open lists ≤ room
+  pub few : depths items ≤ max_depth
+  pub fits : depth_open lists ≤ max_depth
   pub unclosed : UnclosedMembers (UnclosedValue lists) items text
 
 -- a beginning of members, or members that end inside a string between marks
 abbrev pub GoesMembers : ℕ → List ℕ → Type 0
-GoesMembers room part = Begins (IsMembersPart room) part ⊎ AreUnclosedMembers room part
+GoesMembers max_depth part = Begins (IsMembersPart max_depth) part ⊎ AreUnclosedMembers max_depth part
 
 -- ---- parts in which lists may open
 
 -- a value of such a depth is at an offset
-pub record ValueStandsIn (room at : ℕ) (text : List ℕ) : Type 0 where
+pub record ValueStandsIn (max_depth at : ℕ) (text : List ℕ) : Type 0 where
   pub value : Value
   pub rest : List ℕ
-  pub stands : ValueAt room text at value rest
+  pub stands : ValueAt max_depth text at value rest
 
 -- the members of a list, with such a depth, are at an offset
-pub record MembersStandIn (room at : ℕ) (text : List ℕ) : Type 0 where
+pub record MembersStandIn (max_depth at : ℕ) (text : List ℕ) : Type 0 where
   pub items : Values
   pub rest : List ℕ
-  pub stands : MembersAt room text at items rest
+  pub stands : MembersAt max_depth text at items rest
 
 -- such a part, with any number of lists open
 abbrev pub Anywhere : (U : ℕ → List ℕ → Type 0) → List ℕ → Type 0
-Anywhere U text = (room : ℕ) × U room text
+Anywhere U text = (max_depth : ℕ) × U max_depth text
 
 -- One list too many begins at an octet. A part with one more list open may continue with this octet, and no part within
--- `room` may.
-pub record IsDeepAt (room : ℕ) (G W U : ℕ → List ℕ → Type 0) (text : List ℕ) (at : ℕ) : Type 0 where
-  pub place : ℕ
-  pub begun : Begun (G (suc room)) text at (place + 1)
-  pub none_whole : StopsAt (W room) text at place
-  pub none_open : StopsAt (From (U room) at) text at place
+-- `max_depth` may.
+pub record IsDeepAt (max_depth : ℕ) (G W U : ℕ → List ℕ → Type 0) (text : List ℕ) (at : ℕ) : Type 0 where
+  pub offset : ℕ
+  pub begun : Begun (G (suc max_depth)) text at (offset + 1)
+  pub none_whole : StopsAt (W max_depth) text at offset
+  pub none_open : StopsAt (From (U max_depth) at) text at offset
 
--- Where a part is refused, if at most `room` lists may be open at once in it. G contains its beginnings, W the texts that
+-- Where a part is refused, if at most `max_depth` lists may be open at once in it. G contains its beginnings, W the texts that
 -- have the whole part there, U the parts that are not closed.
 abbrev pub IsValueEnd : ℕ → (G W U : ℕ → List ℕ → Type 0) → List ℕ → ℕ → FormFault → Type 0
-IsValueEnd room G W U text at TooDeep = IsDeepAt room G W U text at
-IsValueEnd room G W U text at Short = Begun (G room) text at (length text)
-IsValueEnd room G W U text at (Bad k) = Begun (G room) text at k × StopsAt (From (Anywhere U) at) text at k
-IsValueEnd room G W U text at Memory = Unit {0}
-IsValueEnd room G W U text at _ = ⊥
+IsValueEnd max_depth G W U text at TooDeep = IsDeepAt max_depth G W U text at
+IsValueEnd max_depth G W U text at Short = Begun (G max_depth) text at (length text)
+IsValueEnd max_depth G W U text at (Bad k) = Begun (G max_depth) text at k × StopsAt (From (Anywhere U) at) text at k
+IsValueEnd max_depth G W U text at Memory = Unit {0}
+IsValueEnd max_depth G W U text at _ = ⊥

@@ -5,13 +5,13 @@ use Rattle.sexpr_core.specs.Value.{Value, plain, group}
 use Rattle.spki_tag.specs.{Reading.{ReadsAs}, declared.fault.TagFault.{TagFault}, Faults.{first_fault, unless}}
 use Rattle.spki_cert.specs.declared.{principal.Principal.{Principal}, window.Window.{Window}}
 use Rattle.spki_cert.specs.declared.principal_reader.{Issuer.{Issuer}, WrittenSubject.{WrittenSubject}}
-use Rattle.spki_cert.specs.declared.{fields.{FieldValues.{FieldValues}, Place.{Place}, FieldValue.{FieldValue}}, fault.CertFaultKind.{CertFaultKind}}
+use Rattle.spki_cert.specs.declared.{fields.{FieldValues.{FieldValues}, Container.{Container}, FieldValue.{FieldValue}}, fault.CertFaultKind.{CertFaultKind}}
 use Rattle.spki_cert.specs.declared.{entry.Subject.{Subject}, certificate_reader.CertParts.{CertParts}, certificate.SeqItem.{SeqItem}}
 use Rattle.spki_cert.specs.declared.hash.HashAlg.{HashAlg}
 use Rattle.spki_cert.specs.FieldFaults.{is_plain, any_octets, is_sized, is_again, limit_fault, has, fields_fault, entry_field_fault, cert_field_fault, is_both_ways}
 use Rattle.spki_cert.specs.Fields.{PrincipalOf, plains, is_headed, Sole, Given, IssuerIn, WrittenSubjectIn, LimitsAre, ValidOf, IsField, IsCertField, AreFields, propagates, WindowOf}
 use Rattle.spki_cert.specs.{Readings.{DateOf}, Structures.{IssuedBy, IssuedFor, AuthCertOf, NameCertOf, waits_after}}
-use Rattle.spki_cert.specs.declared.fields.Place.TheVariants as places
+use Rattle.spki_cert.specs.declared.fields.Container.TheVariants as containers
 use Rattle.spki_cert.specs.declared.fields.FieldValue.TheVariants as field_value
 use Rattle.spki_tag.specs.declared.fault.TagFault.TheVariants as tag_faults
 use Rattle.spki_cert.specs.declared.fault.CertFaultKind.TheVariants as kinds
@@ -118,14 +118,14 @@ pub record FieldValuesOf (fields : List Value) (k : FieldValues) : Type 0 where
   pub valid_is : Given (codes "valid") ValidOf fields k.valid
 
 -- the fields of an entry, and those of a certificate
-abbrev pub IsFieldOf : Place → Value → Type 0
-IsFieldOf places.Entry v = IsField v
-IsFieldOf places.Certificate v = IsCertField v
+abbrev pub IsFieldOf : Container → Value → Type 0
+IsFieldOf containers.Entry v = IsField v
+IsFieldOf containers.Certificate v = IsCertField v
 
 -- the fault of a field of an entry, and that of one of a certificate
-abbrev pub fault_in : Place → Value → Option CertFaultKind
-fault_in places.Entry = entry_field_fault
-fault_in places.Certificate = cert_field_fault
+abbrev pub fault_in : Container → Value → Option CertFaultKind
+fault_in containers.Entry = entry_field_fault
+fault_in containers.Certificate = cert_field_fault
 
 -- whether some word is this one
 abbrev pub is_word_among : List (List ℕ) → List ℕ → Bool

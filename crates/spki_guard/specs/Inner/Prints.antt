@@ -20,8 +20,8 @@ use Rattle.spki_guard.specs.declared.sources.Source.TheVariants as source
 
 -- ---- what a printer of folds has printed
 
-abbrev pub room_of : FoldPrinter → ℕ
-room_of p = p.room
+abbrev pub remaining_of : FoldPrinter → ℕ
+remaining_of p = p.remaining
 
 -- nothing was put
 pub record IsUnused (p : FoldPrinter) : Type 0 where
@@ -30,17 +30,17 @@ pub record IsUnused (p : FoldPrinter) : Type 0 where
   pub none_done : p.some_done ≡ false
   pub none_put : p.count ≡ 0
 
--- The printer has the lines of these folds, and `room` for the rest of `most` octets; or the lines have more than `most` octets.
-pub record HasPrinted (most : ℕ) (folds : List EntryFold) (p : FoldPrinter) : Type 0 where
+-- The printer has the lines of these folds, and `remaining` for the rest of `max_octets` octets; or the lines have more than `max_octets` octets.
+pub record HasPrinted (max_octets : ℕ) (folds : List EntryFold) (p : FoldPrinter) : Type 0 where
   pub lines : List ℕ
   pub are : AreFoldLines 1 folds lines
-  pub kept : p.is_long ≡ false → (p.lines.items ≡ lines) × (length lines + p.room ≡ most)
-  pub long : p.is_long ≡ true → most < length lines
+  pub kept : p.is_long ≡ false → (p.lines.items ≡ lines) × (length lines + p.remaining ≡ max_octets)
+  pub long : p.is_long ≡ true → max_octets < length lines
   pub done : p.some_done ≡ some_done folds
   pub counted : p.count ≡ length folds
 
 abbrev pub PrintsFolds : FoldPrinter → List EntryFold → FoldPrinter → Type 0
-PrintsFolds start folds p = IsUnused start → HasPrinted start.room folds p
+PrintsFolds start folds p = IsUnused start → HasPrinted start.remaining folds p
 
 pub nothing_printed : (p : FoldPrinter) → PrintsFolds p [] p
 nothing_printed p unused = record {
@@ -93,9 +93,9 @@ PrintsAs IsOne answer = (printed : List ℕ) → Prints answer printed → IsOne
 
 -- ---- answers within a number of octets
 
--- the lines of these folds have more octets than `most`
+-- the lines of these folds have more octets than `max_octets`
 abbrev pub AreLongFolds : List EntryFold → ℕ → Type 0
-AreLongFolds folds most = (verdict : Verdict) × (lines : List ℕ) × ReportsFolds folds verdict lines × (most < length lines)
+AreLongFolds folds max_octets = (verdict : Verdict) × (lines : List ℕ) × ReportsFolds folds verdict lines × (max_octets < length lines)
 
 -- ---- sources
 

@@ -5,7 +5,7 @@ use Rattle.metered_io.proofs.input.read_whole.Given as goal
 abbrev pub invariant-loop-buffer : goal.invariant-loop-buffer
 invariant-loop-buffer g l = record {
   taken : Gives g.R.Read.remaining l.initial.reader l.reader l.text.items;
-  short : vec_len l.text ≤ l.most;
+  short : vec_len l.text ≤ l.max_octets;
   asked : l.reader.asks ≤ max l.initial.reader.asks 2097152;
   faultless : l.reader.faults ≡ l.initial.reader.faults;
   earlier : l.reader.earlier ≡ l.initial.reader.earlier;

@@ -59,5 +59,5 @@ returns-in_err-ended-clause-refused c =
     err_kept _ _ _ c.from_residual-in_err-ended.ensures.1
     (behind_end _ _ _ _ _ _ c.skip_spaces-begin.ensures c.in-Some.ensures c.if-octet-ne123.false c.in_ok-body.ensures.read
     c.in_err-ended.ensures.refused
-    (braced_before _ _ _ _ _ _ (omega (arith, c.if-text-gt-MOST_OCTETS.false)) c.skip_spaces-begin.ensures c.in-Some.ensures c.if-octet-ne123.false
+    (braced_before _ _ _ _ _ _ (omega (arith, c.if-text-gt-MAX_OCTETS.false)) c.skip_spaces-begin.ensures c.in-Some.ensures c.if-octet-ne123.false
     c.in_ok-body.ensures.read (rw c.deref.ensures.value at c.in_ok-check_body.ensures.read) c.in_err-ended.ensures.refused))

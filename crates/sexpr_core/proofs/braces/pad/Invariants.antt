@@ -1,5 +1,5 @@
 use Rattle.std.proofs.Common.{◌≡◌, ◌++◌, replicate}
 use Rattle.sexpr_core.proofs.braces.pad.Given as goal
 
-abbrev pub invariant-loop-place : goal.invariant-loop-place
-invariant-loop-place l = l.symbols.items ≡ l.initial.symbols.items ++ replicate l.place 61
+abbrev pub invariant-loop-index : goal.invariant-loop-index
+invariant-loop-index l = l.symbols.items ≡ l.initial.symbols.items ++ replicate l.index 61

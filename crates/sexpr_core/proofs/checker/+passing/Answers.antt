@@ -4,8 +4,8 @@ use Rattle.sexpr_core.proofs.ValueSteps.{string_value, list_passed, no_members, 
 use Rattle.sexpr_core.proofs.Errors.{err_matched}
 use Rattle.sexpr_core.proofs.checker.+passing.Goals as goal
 
-pub pass_list-returns-then-room-eq0 : goal.pass_list-returns-then-room-eq0
-pass_list-returns-then-room-eq0 t c = list_deep _ _ _ c.if-room-eq0.true c.requires.begins.spelled
+pub pass_list-returns-then-max_depth-eq0 : goal.pass_list-returns-then-max_depth-eq0
+pass_list-returns-then-max_depth-eq0 t c = list_deep _ _ _ c.if-max_depth-eq0.true c.requires.begins.spelled
 
 pub pass_list-returns-in_err-end : goal.pass_list-returns-in_err-end
 pass_list-returns-in_err-end t c = search (rules, err_matched, list_fault)
@@ -38,7 +38,7 @@ pub pass_value-returns-in_default : goal.pass_value-returns-in_default
 pass_value-returns-in_default t c = value_ended _ _ c.in_default.ensures
 
 pub pass_value-returns-in_err-read : goal.pass_value-returns-in_err-read
-pass_value-returns-in_err-read t c = err_matched _ _ _ _ c.from_residual.ensures.1 (c.in_err-read.ensures c.args.room)
+pass_value-returns-in_err-read t c = err_matched _ _ _ _ c.from_residual.ensures.1 (c.in_err-read.ensures c.args.max_depth)
 
 pub pass_value-returns : goal.pass_value-returns
 pass_value-returns t c = (_, string_value _ _ _ _ [] _ c.requires.begins c.in_ok-read.ensures refl)

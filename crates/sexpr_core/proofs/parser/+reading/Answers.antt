@@ -4,8 +4,8 @@ use Rattle.sexpr_core.proofs.ValueSteps.{string_value, list_read, list_short, no
 use Rattle.sexpr_core.proofs.Errors.{err_matched}
 use Rattle.sexpr_core.proofs.parser.+reading.Goals as goal
 
-pub read_list-returns-then-room-eq0 : goal.read_list-returns-then-room-eq0
-read_list-returns-then-room-eq0 t c = list_deep _ _ _ c.if-room-eq0.true c.requires.begins.spelled
+pub read_list-returns-then-max_depth-eq0 : goal.read_list-returns-then-max_depth-eq0
+read_list-returns-then-max_depth-eq0 t c = list_deep _ _ _ c.if-max_depth-eq0.true c.requires.begins.spelled
 
 pub read_list-returns-in_err-end : goal.read_list-returns-in_err-end
 read_list-returns-in_err-end t c = search (rules, err_matched, list_fault)
@@ -38,7 +38,7 @@ pub read_value-returns-in_default : goal.read_value-returns-in_default
 read_value-returns-in_default t c = value_ended _ _ c.in_default.ensures
 
 pub read_value-returns-in_err-read : goal.read_value-returns-in_err-read
-read_value-returns-in_err-read t c = err_matched _ _ _ _ c.from_residual.ensures.1 (c.in_err-read.ensures c.args.room)
+read_value-returns-in_err-read t c = err_matched _ _ _ _ c.from_residual.ensures.1 (c.in_err-read.ensures c.args.max_depth)
 
 pub read_value-returns : goal.read_value-returns
 read_value-returns t c = string_value _ _ _ _ _ _ c.requires.begins c.in_ok-read.ensures c.in_ok-push.ensures.items

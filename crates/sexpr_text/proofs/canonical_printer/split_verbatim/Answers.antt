@@ -20,7 +20,7 @@ returns-then-octet-eq58 c octets behind e =
 pub overflow_mul-number : goal.overflow_mul-number
 overflow_mul-number c =
     let (octets, behind, e) = c.requires in
-    let (digit, most, next) =
+    let (digit, upper, next) =
     length_goes_on _ _ _ _ octets behind c.in-Some.ensures.cases.0 (c.loop-octet.invariant octets behind e) c.if-octet-eq58.false in
     let short = length_within _ _ octets behind (length_begins c.args.text.now octets behind e) in
     let bound : length c.args.text.now < 2 ^ 63 = search rules in
@@ -34,7 +34,7 @@ overflow_sub-number c =
 pub overflow_add-number : goal.overflow_add-number
 overflow_add-number c =
     let (octets, behind, e) = c.requires in
-    let (digit, most, next) =
+    let (digit, upper, next) =
     length_goes_on _ _ _ _ octets behind c.in-Some.ensures.cases.0 (c.loop-octet.invariant octets behind e) c.if-octet-eq58.false in
     let short = length_within _ _ octets behind (length_begins c.args.text.now octets behind e) in
     let bound : length c.args.text.now < 2 ^ 63 = search rules in

@@ -6,18 +6,18 @@ use Rattle.sexpr_text.proofs.StringEnds.{nothing_left}
 use Rattle.sexpr_text.proofs.ValueEnds.{none_value, string_ends, flat_ends, list_too_deep, list_ends, members_short, member_ends}
 use Rattle.sexpr_text.proofs.reader.+reading.Goals as goal
 
-pub read_list-returns-then-room-eq0-clause-only : goal.read_list-returns-then-room-eq0-clause-only
-read_list-returns-then-room-eq0-clause-only t c = λ v rest h.
-    let p = inside_list c.args.room 0 _ _ v rest c.requires.begins (omega arith) h in
+pub read_list-returns-then-max_depth-eq0-clause-only : goal.read_list-returns-then-max_depth-eq0-clause-only
+read_list-returns-then-max_depth-eq0-clause-only t c = λ v rest h.
+    let p = inside_list c.args.max_depth 0 _ _ v rest c.requires.begins (omega arith) h in
     absurd (omega (arith, p.1))
 
 pub read_list-returns-in_err-members-clause-only : goal.read_list-returns-in_err-members-clause-only
 read_list-returns-in_err-members-clause-only t c = λ v rest h.
-    let inside = inside_list c.args.room (c.args.room - 1) _ _ v rest c.requires.begins (omega arith) h in
+    let inside = inside_list c.args.max_depth (c.args.max_depth - 1) _ _ v rest c.requires.begins (omega arith) h in
     err_kept _ _ _ c.from_residual.ensures.1 (c.in_err-members.ensures.only inside.0 rest inside.2)
 
 pub read_list-returns-clause-read : goal.read_list-returns-clause-read
-read_list-returns-clause-read t c = tree_read _ (c.args.room - 1) _ _ _ _ c.requires.begins (omega arith) c.in_ok-members.ensures.read
+read_list-returns-clause-read t c = tree_read _ (c.args.max_depth - 1) _ _ _ _ c.requires.begins (omega arith) c.in_ok-members.ensures.read
 
 pub read_members-loop-octet-init : goal.read_members-loop-octet-init
 read_members-loop-octet-init t c = rw c.new-members.ensures.items (no_members _ _ _ _ c.skip_spaces-i.ensures)
@@ -52,7 +52,7 @@ pub read_tree-returns-in-None-clause-only : goal.read_tree-returns-in-None-claus
 read_tree-returns-in-None-clause-only t c = λ v rest h. absurd (no_value _ _ _ v rest c.in-None.ensures h)
 
 pub read_tree-returns-in-Some-eq91-clause-only : goal.read_tree-returns-in-Some-eq91-clause-only
-read_tree-returns-in-Some-eq91-clause-only t c = λ v rest h. c.read_hinted.ensures.only c.args.room v rest h
+read_tree-returns-in-Some-eq91-clause-only t c = λ v rest h. c.read_hinted.ensures.only c.args.max_depth v rest h
 
 pub read_list-returns-in_err-members-clause-refused : goal.read_list-returns-in_err-members-clause-refused
 read_list-returns-in_err-members-clause-refused t c = search (rules, err_kept, members_missed)
@@ -63,8 +63,8 @@ read_tree-returns-in_err-octets-in-Some-clause-refused t c = search (rules, err_
 pub read_tree-returns-in-Some-eq91-clause-refused : goal.read_tree-returns-in-Some-eq91-clause-refused
 read_tree-returns-in-Some-eq91-clause-refused t c = IfErr-weaker c.read_hinted.result _ _ (λ fault h. part_fault _ _ _ fault h) c.read_hinted.ensures.refused
 
-pub read_list-returns-then-room-eq0-clause-begun : goal.read_list-returns-then-room-eq0-clause-begun
-read_list-returns-then-room-eq0-clause-begun t c = list_too_deep _ _ _ c.requires.begins c.if-room-eq0.true
+pub read_list-returns-then-max_depth-eq0-clause-begun : goal.read_list-returns-then-max_depth-eq0-clause-begun
+read_list-returns-then-max_depth-eq0-clause-begun t c = list_too_deep _ _ _ c.requires.begins c.if-max_depth-eq0.true
 
 pub read_list-returns-in_err-members-clause-begun : goal.read_list-returns-in_err-members-clause-begun
 read_list-returns-in_err-members-clause-begun t c =
@@ -85,7 +85,7 @@ read_tree-returns-in_err-octets-in-Some-clause-begun t c =
     (string_ends _ _ _ _ _ c.in-Some.ensures c.in-Some.field-0-test.0.1 c.in-Some.field-0-test.1 c.in_err-octets-in-Some.ensures.begun)
 
 pub read_tree-returns-in-None-clause-begun : goal.read_tree-returns-in-None-clause-begun
-read_tree-returns-in-None-clause-begun t c = nothing_left _ _ _ (none_value c.args.room) c.requires.begins c.in-None.ensures
+read_tree-returns-in-None-clause-begun t c = nothing_left _ _ _ (none_value c.args.max_depth) c.requires.begins c.in-None.ensures
 
 pub read_tree-returns-in-Some-eq91-clause-begun : goal.read_tree-returns-in-Some-eq91-clause-begun
 read_tree-returns-in-Some-eq91-clause-begun t c = IfErr-weaker c.read_hinted.result _ _ (λ fault h. flat_ends _ _ _ fault h) c.read_hinted.ensures.begun

@@ -1,5 +1,5 @@
 use Rattle.std.proofs.Common.{arith}
-use Rattle.spki_c.proofs.Places.{no_list, first_there, goes_on, goes_short, none_there}
+use Rattle.spki_c.proofs.Spans.{no_list, first_there, goes_on, goes_short, none_there}
 use Rattle.spki_c.proofs.strings.member_of.Goals as goal
 
 pub returns-in_err-rest : goal.returns-in_err-rest

@@ -1,5 +1,5 @@
 use Rattle.std.proofs.Common.{length}
-use Rattle.spki_c.proofs.Places.{Left}
+use Rattle.spki_c.proofs.Spans.{Left}
 use Rattle.spki_c.proofs.strings.member_of.Given as goal
 
 abbrev pub invariant-loop-member : goal.invariant-loop-member

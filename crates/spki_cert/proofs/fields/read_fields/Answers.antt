@@ -22,10 +22,10 @@ loop-field-preserved c =
       subst (λ (k : FieldValues). AreRead (i.0 ++ c.in-Some.field ∷ []) c.push.new.self.items k) (sym c.add.ensures)
           (subst (λ (hs : List (List ℕ)). AreRead (i.0 ++ c.in-Some.field ∷ []) hs (gather c.loop-field.known c.in_ok-said.said))
           (sym (c.in_ok-push.ensures.items ∙ ap (λ (h : List ℕ). c.loop-field.heads.items ++ h ∷ []) c.new.ensures)) more),
-      left-next (fault_in c.args.place) c.args.members i.0 c.loop-field.rest c.in-Some.others c.in-Some.field i.3 c.in-Some.ensures
-          (field-new (fault_in c.args.place) i.0 c.in-Some.field _
+      left-next (fault_in c.args.container) c.args.members i.0 c.loop-field.rest c.in-Some.others c.in-Some.field i.3 c.in-Some.ensures
+          (field-new (fault_in c.args.container) i.0 c.in-Some.field _
           (field-is_new i.0 c.loop-field.heads.items c.loop-field.known field c.head.result.now i.2 new)
-          (ap (fault_in c.args.place) (sym is) ∙ c.in_ok-said.ensures.faultless)),
+          (ap (fault_in c.args.container) (sym is) ∙ c.in_ok-said.ensures.faultless)),
     )
 
 pub loop-field-init : goal.loop-field-init
@@ -37,8 +37,8 @@ returns-in_default-unrepeated_field-clause-named c =
     let none : (head : List ℕ) → IsNew c.in-Some.field c.loop-field.heads.items head → ⊥ =
     subst (λ (hs : List (List ℕ)). (head : List ℕ) → IsNew c.in-Some.field hs head → ⊥) c.deref.ensures.value c.in_default-unrepeated_field.ensures in
     λ _.
-    left-fault (fault_in c.args.place) c.args.members i.0 c.loop-field.rest c.in-Some.others c.in-Some.field Shape i.3 c.in-Some.ensures
-    (field-not_new c.args.place i.0 c.loop-field.heads.items c.loop-field.known c.in-Some.field i.2 none)
+    left-fault (fault_in c.args.container) c.args.members i.0 c.loop-field.rest c.in-Some.others c.in-Some.field Shape i.3 c.in-Some.ensures
+    (field-not_new c.args.container i.0 c.loop-field.heads.items c.loop-field.known c.in-Some.field i.2 none)
 
 pub returns-in_err-said-clause-named : goal.returns-in_err-said-clause-named
 returns-in_err-said-clause-named c = search (rules, carried, left-fault, field-new, field-is_new)

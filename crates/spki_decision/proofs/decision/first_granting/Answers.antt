@@ -34,7 +34,7 @@ returns-in-Err-clause-too_large g c h =
     let e = c.entry-item.result in
     let here = stands case _ _ e c.deref-entry-items.ensures.value c.loop-index-test.true c.entry-item.is in
     record {
-      place = c.loop-index.index;
+      index = c.loop-index.index;
       entry = e;
       stands = here;
       none_before = c.loop-index.invariant.none_before;

@@ -8,12 +8,12 @@ returns g c =
     let verified = g.V.Verifier.accepted c.args.verifier.now in
     let policy = c.args.policy in
     let items = c.args.sequence.now in
-    let first : IsFirstRefused verified (map signed_of c.deref.result.now) (Some c.in-Some.place) = rw c.in-Some.is at c.in_ok-first_refused.ensures in
-    let refused : RefusedAt verified (map signed_of c.in_ok-examined.examined.signed.items) c.in-Some.place =
+    let first : IsFirstRefused verified (map signed_of c.deref.result.now) (Some c.in-Some.index) = rw c.in-Some.is at c.in_ok-first_refused.ensures in
+    let refused : RefusedAt verified (map signed_of c.in_ok-examined.examined.signed.items) c.in-Some.index =
     rw c.deref.ensures.value at first in
     let item_is = c.index.ensures in
-    let same = ap (λ s. s.item) item_is ∙ refused_item verified c.in_ok-examined.examined.signed.items c.in-Some.place refused c.index.result.now in
-    let fails = not_accepted policy verified items (map signed_of c.in_ok-examined.examined.signed.items) c.in-Some.place
+    let same = ap (λ s. s.item) item_is ∙ refused_item verified c.in_ok-examined.examined.signed.items c.in-Some.index refused c.index.result.now in
+    let fails = not_accepted policy verified items (map signed_of c.in_ok-examined.examined.signed.items) c.in-Some.index
     c.in_ok-examined.ensures.asked refused in
     subst (λ (n : ℕ). FailsAt policy verified items n NotAccepted) (sym same) fails
 

@@ -5,4 +5,4 @@ pub returns-clause-grants : goal.returns-clause-grants
 returns-clause-grants k c tuples e out s = out (supported_named c tuples e s)
 
 pub returns-clause-small : goal.returns-clause-small
-returns-clause-small k c tuples e out large = out (large_named c.most_nodes c.policy c.key e tuples large)
+returns-clause-small k c tuples e out large = out (large_named c.max_nodes c.policy c.key e tuples large)

@@ -8,9 +8,9 @@ pub returns-clause-granted : goal.returns-clause-granted
 returns-clause-granted g c verifier k moment = granted_then k moment (g.V.Verifier.accepted verifier)
 
 pub returns-clause-yes : goal.returns-clause-yes
-returns-clause-yes g c verifier k moment n place e d number stands here all granted decided =
-    yes_then k moment (g.V.Verifier.accepted verifier) n place e number stands here all granted d decided
+returns-clause-yes g c verifier k moment n index e d number stands here all granted decided =
+    yes_then k moment (g.V.Verifier.accepted verifier) n index e number stands here all granted d decided
 
 pub returns-clause-answer : goal.returns-clause-answer
-returns-clause-answer g c verifier k moment n place e x number stands here all decided other =
-    answer_then k moment (g.V.Verifier.accepted verifier) n place e number stands here all decided x other
+returns-clause-answer g c verifier k moment n index e x number stands here all decided other =
+    answer_then k moment (g.V.Verifier.accepted verifier) n index e number stands here all decided x other

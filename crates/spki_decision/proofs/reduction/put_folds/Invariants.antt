@@ -6,7 +6,7 @@ use Rattle.spki_decision.specs.{CertificateTests.{with_entries}, declared.reduct
 use Rattle.spki_decision.proofs.EntryChains.{ArePut, FoldedTo}
 use Rattle.spki_decision.proofs.reduction.put_folds.Given as goal
 
-abbrev pub invariant-loop-place : goal.invariant-loop-place
-invariant-loop-place g l = (folds : List EntryFold) × g.S.FoldSink.takes l.initial.sink folds l.sink × ArePut l.place folds
-    × FoldedTo (with_entries (model l.case) l.acl) (tuples_of l.steps) l.place (work_left l.budget) folds
+abbrev pub invariant-loop-index : goal.invariant-loop-index
+invariant-loop-index g l = (folds : List EntryFold) × g.S.FoldSink.takes l.initial.sink folds l.sink × ArePut l.index folds
+    × FoldedTo (with_entries (model l.case) l.acl) (tuples_of l.steps) l.index (work_left l.budget) folds
     × IsBudgetFor (tuples_of l.steps) l.budget

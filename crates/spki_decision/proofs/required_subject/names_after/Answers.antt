@@ -4,15 +4,15 @@ use Rattle.spki_decision.proofs.required_subject.names_after.Goals as goal
 
 pub returns-then-not-has_first-clause-none : goal.returns-then-not-has_first-clause-none
 returns-then-not-has_first-clause-none g c =
-    begins_not c.args.names c.args.front.now c.loop-place.rest c.loop-place.place c.at-in-loop-place.result.now c.at-in-loop-place.ensures
-    c.loop-place.invariant.begun (λ first. search rules)
+    begins_not c.args.names c.args.front.now c.loop-index.rest c.loop-index.index c.at-in-loop-index.result.now c.at-in-loop-index.ensures
+    c.loop-index.invariant.begun (λ first. search rules)
 
-pub loop-place-preserved : goal.loop-place-preserved
-loop-place-preserved g c =
-    let step = names_step c.args.front.now c.loop-place.place c.at.result.now c.at.ensures in
+pub loop-index-preserved : goal.loop-index-preserved
+loop-index-preserved g c =
+    let step = names_step c.args.front.now c.loop-index.index c.at.result.now c.at.ensures in
     record {
-      begun = begins_more c.args.names c.args.front.now c.loop-place.rest c.loop-place.place c.at-in-loop-place.result.now c.at-in-loop-place.ensures
-          c.loop-place.invariant.begun (search rules) ∙ ap (λ ns. take (c.loop-place.place + 1) c.args.front.now ++ ns) (sym c.behind_first-rest.ensures);
-      cost = omega (arith, step, c.loop-place.invariant.cost, c.count_name.ensures);
-      grows = omega (arith, c.loop-place.invariant.grows, c.count_name.ensures);
+      begun = begins_more c.args.names c.args.front.now c.loop-index.rest c.loop-index.index c.at-in-loop-index.result.now c.at-in-loop-index.ensures
+          c.loop-index.invariant.begun (search rules) ∙ ap (λ ns. take (c.loop-index.index + 1) c.args.front.now ++ ns) (sym c.behind_first-rest.ensures);
+      cost = omega (arith, step, c.loop-index.invariant.cost, c.count_name.ensures);
+      grows = omega (arith, c.loop-index.invariant.grows, c.count_name.ensures);
     }

@@ -3,8 +3,8 @@ use Rattle.std.proofs.lemmas.{Bool.{or_from}}
 use Rattle.spki_tag.specs.Tag.{tags, some_nests_set}
 use Rattle.spki_reduce.specs.{Reduction.{tags_of, step_tuple}, Chain.{tuples_of, all_tags}}
 use Rattle.spki_decision.proofs.{ChainRequirements.{more_tuples, more_tags}, EntryChains.{append-sets}}
-use Rattle.spki_decision.proofs.StepNodes.{together-more, most-more, together-front, sets-front}
-use Rattle.spki_decision.specs.Spared.{nodes_together, most_of_one}
+use Rattle.spki_decision.proofs.StepNodes.{together-more, max_of_one-more, together-front, sets-front}
+use Rattle.spki_decision.specs.Spared.{nodes_together, max_of_one}
 use Rattle.spki_decision.proofs.sizes.plain_of.Goals as goal
 
 -- one step more
@@ -22,11 +22,11 @@ loop-step-preserved c =
     ∙ or_from (some_nests_set (tags (all_tags before))) (some_nests_set (tags own)) c.loop-step.invariant.no_set
     (sym c.nests_set.ensures ∙ c.if-nests_set.false) in
     let sum = ap nodes_together more ∙ together-more before (step_tuple x) in
-    let largest = ap most_of_one more ∙ most-more before (step_tuple x) in
+    let largest = ap max_of_one more ∙ max_of_one-more before (step_tuple x) in
     record {
       no_set = no_set;
       all_nodes = omega (arith, sum, c.loop-step.invariant.all_nodes, c.nodes_in-nodes.ensures.together);
-      most_nodes = omega (arith, largest, c.loop-step.invariant.most_nodes, c.nodes_in-nodes.ensures.counted, c.max.ensures);
+      max_nodes = omega (arith, largest, c.loop-step.invariant.max_nodes, c.nodes_in-nodes.ensures.counted, c.max.ensures);
       few = (omega arith, omega (arith, c.max.ensures, c.nodes_in-nodes.ensures.few, c.loop-step.invariant.few.1));
     }
 
@@ -36,7 +36,7 @@ returns-then-nests_set c =
     inl (sets-front c.args.steps.now c.loop-step.step-index c.step-item.result c.loop-step-test.true c.step-item.is
     (sym c.nests_set.ensures ∙ c.if-nests_set.true))
 
-pub returns-then-plain-gt-MOST_NODES : goal.returns-then-plain-gt-MOST_NODES
-returns-then-plain-gt-MOST_NODES c =
+pub returns-then-plain-gt-MAX_NODES : goal.returns-then-plain-gt-MAX_NODES
+returns-then-plain-gt-MAX_NODES c =
     let front = together-front c.args.steps.now c.loop-step.step-index c.step-item.result c.loop-step-test.true c.step-item.is in
     inr (omega (arith, front, c.loop-step.invariant.all_nodes, c.nodes_in-nodes.ensures.together))

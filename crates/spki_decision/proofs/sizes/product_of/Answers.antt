@@ -21,8 +21,8 @@ loop-step-preserved c =
     )
 
 -- if the product of the steps so far is over the limit, that of all steps is, since no factor is 0
-pub returns-then-product-gt-MOST_NODES : goal.returns-then-product-gt-MOST_NODES
-returns-then-product-gt-MOST_NODES c =
+pub returns-then-product-gt-MAX_NODES : goal.returns-then-product-gt-MAX_NODES
+returns-then-product-gt-MAX_NODES c =
     let steps = c.args.steps.now in
     let i = c.loop-step.step-index in
     let x = c.step-item.result in

@@ -11,5 +11,5 @@ returns-clause-large c e =
       verdict = answer_verdict c.answer_of_explanation-answer.result;
       lines = octets;
       report = c.answer_of_explanation-answer.ensures octets prints;
-      long = subst (λ n. n < length octets) c.most_answer.ensures long;
+      long = subst (λ n. n < length octets) c.max_answer.ensures long;
     })

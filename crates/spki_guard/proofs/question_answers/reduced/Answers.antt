@@ -6,8 +6,8 @@ use Rattle.spki_guard.proofs.question_answers.reduced.Goals as goal
 pub returns-in-None-clause-large : goal.returns-in-None-clause-large
 returns-in-None-clause-large c e =
     let (folds, printed, are) = c.in_ok-item.ensures.folds in
-    let room = c.new-printer.ensures.room ∙ c.most_answer-most.ensures in
-    let within = subst (λ (n : ℕ). HasPrinted n folds c.reduce_into.new.sink) c.new-printer.ensures.room (printed c.new-printer.ensures.unused) in
+    let remaining = c.new-printer.ensures.remaining ∙ c.max_answer-max_octets.ensures in
+    let within = subst (λ (n : ℕ). HasPrinted n folds c.reduce_into.new.sink) c.new-printer.ensures.remaining (printed c.new-printer.ensures.unused) in
     let (verdict, lines, report, long) = c.end.ensures.large folds within e in
     inr (record {
       failure = None;
@@ -16,5 +16,5 @@ returns-in-None-clause-large c e =
       verdict = verdict;
       lines = lines;
       report = report;
-      long = subst (λ n. n < length lines) c.most_answer-most.ensures long;
+      long = subst (λ n. n < length lines) c.max_answer-max_octets.ensures long;
     })

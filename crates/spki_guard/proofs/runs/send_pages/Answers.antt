@@ -5,7 +5,7 @@ use Rattle.spki_guard.proofs.runs.send_pages.Goals as goal
 pub returns-in-Err : goal.returns-in-Err
 returns-in-Err g c =
     let (octets, printed, taken) = c.print_answer.ensures in
-    let limit = c.requires.most octets printed in
+    let limit = c.requires.max_asks octets printed in
     record {
       verdict = answer_verdict c.args.answer.now;
       output = octets;

@@ -10,10 +10,10 @@ decreases-subtract_strings l = 2 * weight l.node.now
 abbrev pub decreases-subtract_member_strings : goal.decreases-subtract_member_strings
 decreases-subtract_member_strings l = 2 * weights (values l.members) + 1
 
--- what is left of `room` after the members that were counted
+-- what is left of `remaining` after the members that were counted
 abbrev pub invariant-subtract_member_strings-loop-first : goal.invariant-subtract_member_strings-loop-first
 invariant-subtract_member_strings-loop-first l =
-    (l.left + strings_all (values l.fn.members) ≡ l.fn.room + strings_all (values l.rest))
+    (l.left + strings_all (values l.fn.members) ≡ l.fn.remaining + strings_all (values l.rest))
     × (weights (values l.rest) ≤ weights (values l.fn.members))
 
 abbrev pub decreases-subtract_member_strings-loop-first : goal.decreases-subtract_member_strings-loop-first

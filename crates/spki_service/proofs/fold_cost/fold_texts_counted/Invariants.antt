@@ -6,9 +6,9 @@ use Rattle.spki_decision.{specs.{declared.reduction.EntryFold.{EntryFold}, Requi
 use Rattle.spki_service.{specs.Cost.{all_octets}, proofs.{AnswerLaws.{TextsTo}, Costs.{TicksTo}}}
 use Rattle.spki_service.proofs.fold_cost.fold_texts_counted.Given as goal
 
-abbrev pub invariant-loop-place : goal.invariant-loop-place
-invariant-loop-place g l = (folds : List EntryFold) × g.S.FoldSink.takes l.initial.sink folds l.sink × ArePut l.place folds
-    × TextsTo l.texts (model l.case) (tuples_of l.steps) l.place (work_left l.budget) folds
+abbrev pub invariant-loop-index : goal.invariant-loop-index
+invariant-loop-index g l = (folds : List EntryFold) × g.S.FoldSink.takes l.initial.sink folds l.sink × ArePut l.index folds
+    × TextsTo l.texts (model l.case) (tuples_of l.steps) l.index (work_left l.budget) folds
     × IsBudgetFor (tuples_of l.steps) l.budget
-    × (l.case.uncounted ≡ 0 → TicksTo l.case.most_work l.texts l.fn.ticks l.place (work_left l.budget) l.ticks)
-    × (l.fn.ticks + all_octets (take l.place l.texts) + l.place ≤ l.ticks)
+    × (l.case.uncounted ≡ 0 → TicksTo l.case.max_work l.texts l.fn.ticks l.index (work_left l.budget) l.ticks)
+    × (l.fn.ticks + all_octets (take l.index l.texts) + l.index ≤ l.ticks)

@@ -93,10 +93,10 @@ returns-in_err-entry-clause-cost g c es are =
     )
 
 pub returns-then-grants-clause-until : goal.returns-then-grants-clause-until
-returns-then-grants-clause-until g c es are place e numbered stands =
+returns-then-grants-clause-until g c es are index e numbered stands =
     let tuples = tuples_of c.args.steps.now in
     let i = c.loop-number.number-index in
-    let same = read_there c.args.texts.now es c.args.numbers.now i place e c.in_ok-entry.entry are c.requires c.loop-number-test.true
+    let same = read_there c.args.texts.now es c.args.numbers.now i index e c.in_ok-entry.entry are c.requires c.loop-number-test.true
     (λ f is. c.in_ok-entry.ensures.answer f (rw c.text.ensures is)) numbered stands in
     subst (λ (x : Entry). IsLeastEnd (x.window ∷ all_windows tuples) c.until-until.result) same
     (c.until-until.ensures tuples (model c.args.case.now) c.in_ok-requirement.ensures.answer c.in_ok-requirement.ensures.end

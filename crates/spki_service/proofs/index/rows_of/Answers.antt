@@ -4,16 +4,16 @@ use Rattle.spki_service.proofs.{SortedRows.{rows_more}, index.rows_of.Goals.{the
 use Rattle.spki_service.proofs.index.rows_of.Goals as goal
 
 -- one entry more
-pub loop-place-preserved : goal.loop-place-preserved
-loop-place-preserved c =
+pub loop-index-preserved : goal.loop-index-preserved
+loop-index-preserved c =
     let ps = c.args.owners.now in
-    let place = c.loop-place.place in
-    let p = c.index-owners-place.result in
-    let within : place < length ps = c.loop-place-test.true in
-    let counted : place + 1 ≡ 1 + length (take place ps) = omega (arith, length-take-le place ps (omega arith)) in
-    let more : take (place + 1) ps ≡ take place ps ++ p ∷ [] = rw (← c.index-owners-place.is) at (take_more ps place p within) in
-    let row : Row = record { tail = tail_of (octets_of p); number = place + 1 } in
-    let longer = rows_more c.args.alg p 1 (take place ps) row refl counted in
+    let index = c.loop-index.index in
+    let p = c.index-owners-index.result in
+    let within : index < length ps = c.loop-index-test.true in
+    let counted : index + 1 ≡ 1 + length (take index ps) = omega (arith, length-take-le index ps (omega arith)) in
+    let more : take (index + 1) ps ≡ take index ps ++ p ∷ [] = rw (← c.index-owners-index.is) at (take_more ps index p within) in
+    let row : Row = record { tail = tail_of (octets_of p); number = index + 1 } in
+    let longer = rows_more c.args.alg p 1 (take index ps) row refl counted in
     rw more (elim c.if-is_by.branch [
       | then-is_by+in_ok-push w ↦ search (rules, longer)
       | else-is_by w ↦ search (rules, longer)

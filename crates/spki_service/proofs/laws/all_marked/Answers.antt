@@ -6,5 +6,5 @@ returns-clause-yes c a n (inl (all, h)) = all
 returns-clause-yes c a n (inr (one, u, none)) = absurd cc
 
 pub returns-clause-no : goal.returns-clause-no
-returns-clause-no c a d one u (inl (all, h)) = absurd (u.not_marked (all u.place one u.stands))
+returns-clause-no c a d one u (inl (all, h)) = absurd (u.not_marked (all u.index one u.stands))
 returns-clause-no c a d one u (inr (other, v, none)) = none

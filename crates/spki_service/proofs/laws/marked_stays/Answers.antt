@@ -3,7 +3,7 @@ use Rattle.spki_service.specs.{declared.owned_question.OwnedQuestion.{OwnedQuest
 use Rattle.spki_service.proofs.laws.marked_stays.Goals as goal
 
 pub returns : goal.returns
-returns c held q old new place m o =
+returns c held q old new index m o =
     subst (λ (n : OwnedQuestion). IsOpened held q n) (sym m.others) (record {
       guard_is = o.guard_is;
       texts = o.texts;

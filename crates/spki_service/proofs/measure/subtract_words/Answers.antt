@@ -7,7 +7,7 @@ returns-in_err-left-2 c = search (rules, none_left, too_few)
 
 pub loop-word-preserved : goal.loop-word-preserved
 loop-word-preserved c =
-    one_less c.args.words.now c.loop-word.word-index c.loop-word.left c.args.room c.loop-word.invariant _ c.in_ok-left-2.left
+    one_less c.args.words.now c.loop-word.word-index c.loop-word.left c.args.remaining c.loop-word.invariant _ c.in_ok-left-2.left
     c.loop-word-test.true c.in_ok-left-2.ensures
 
 pub returns : goal.returns

@@ -5,8 +5,8 @@ use Rattle.spki_decision.{specs.{CertificateTests.{with_entries}, Requirements.{
 use Rattle.spki_service.proofs.AnswerLaws.{one_more, too_large, all_texts}
 use Rattle.spki_service.proofs.text_folds.fold_texts.Goals as goal
 
-pub loop-place-init : goal.loop-place-init
-loop-place-init g c = (
+pub loop-index-init : goal.loop-index-init
+loop-index-init g c = (
   [],
   search rules,
   search rules,
@@ -16,30 +16,30 @@ loop-place-init g c = (
 
 pub returns-in_err-fold-clause-too_large : goal.returns-in_err-fold-clause-too_large
 returns-in_err-fold-clause-too_large g c es are h =
-    let (folds, taken, put, before, sizes) = c.loop-place.invariant in
-    too_large c.args.texts.now (model c.args.case.now) (tuples_of c.args.steps.now) c.loop-place.place
-    (omega (arith, c.loop-place-test.true, c.len-place-end.ensures)) c.in_ok-entry.entry (λ f is. c.in_ok-entry.ensures f (rw c.text.ensures is)) (work_left c.loop-place.budget) folds before es are
+    let (folds, taken, put, before, sizes) = c.loop-index.invariant in
+    too_large c.args.texts.now (model c.args.case.now) (tuples_of c.args.steps.now) c.loop-index.index
+    (omega (arith, c.loop-index-test.true, c.len-index-end.ensures)) c.in_ok-entry.entry (λ f is. c.in_ok-entry.ensures f (rw c.text.ensures is)) (work_left c.loop-index.budget) folds before es are
     (search rules)
 
-pub loop-place-preserved : goal.loop-place-preserved
-loop-place-preserved g c =
-    let (folds, taken, put, before, sizes) = c.loop-place.invariant in
+pub loop-index-preserved : goal.loop-index-preserved
+loop-index-preserved g c =
+    let (folds, taken, put, before, sizes) = c.loop-index.invariant in
     let told = c.in_ok-fold.ensures in
     let numbered = put.count in (
       folds ++ c.in_ok-fold.fold ∷ [],
       c.in_ok-put.ensures c.args.sink.now folds taken (omega (arith, numbered)),
-      one_put c.loop-place.place folds c.in_ok-fold.fold put told.dated told.end,
-      one_more c.args.texts.now (model c.args.case.now) (tuples_of c.args.steps.now) c.loop-place.place
-          (omega (arith, c.loop-place-test.true, c.len-place-end.ensures)) c.in_ok-entry.entry (λ f is. c.in_ok-entry.ensures f (rw c.text.ensures is)) (work_left c.loop-place.budget) folds before
+      one_put c.loop-index.index folds c.in_ok-fold.fold put told.dated told.end,
+      one_more c.args.texts.now (model c.args.case.now) (tuples_of c.args.steps.now) c.loop-index.index
+          (omega (arith, c.loop-index-test.true, c.len-index-end.ensures)) c.in_ok-entry.entry (λ f is. c.in_ok-entry.ensures f (rw c.text.ensures is)) (work_left c.loop-index.budget) folds before
           c.in_ok-fold.fold (work_left c.entry_fold-folded.new.budget) told.charged.0 told.exact told.within_limit told.charged.1 told.charged.2,
       told.same_sizes,
     )
 
 pub returns-clause-folds : goal.returns-clause-folds
 returns-clause-folds g c =
-    let (folds, taken, put, all, sizes) = c.loop-place.invariant in
-    let low = c.loop-place-test.false in
-    let high = c.loop-place.auto.place-end in
-    let each = all_texts c.args.texts.now (model c.args.case.now) (tuples_of c.args.steps.now) c.loop-place.place (work_left c.loop-place.budget)
-    folds (omega (arith, low, high, c.len-place-end.ensures)) all in
+    let (folds, taken, put, all, sizes) = c.loop-index.invariant in
+    let low = c.loop-index-test.false in
+    let high = c.loop-index.auto.index-end in
+    let each = all_texts c.args.texts.now (model c.args.case.now) (tuples_of c.args.steps.now) c.loop-index.index (work_left c.loop-index.budget)
+    folds (omega (arith, low, high, c.len-index-end.ensures)) all in
     (folds, taken, (each, put.dated, put.end))

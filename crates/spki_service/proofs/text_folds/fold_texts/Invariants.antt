@@ -6,7 +6,7 @@ use Rattle.spki_decision.{specs.{declared.reduction.EntryFold.{EntryFold}, Requi
 use Rattle.spki_service.proofs.AnswerLaws.{TextsTo}
 use Rattle.spki_service.proofs.text_folds.fold_texts.Given as goal
 
-abbrev pub invariant-loop-place : goal.invariant-loop-place
-invariant-loop-place g l = (folds : List EntryFold) × g.S.FoldSink.takes l.initial.sink folds l.sink × ArePut l.place folds
-    × TextsTo l.texts (model l.case) (tuples_of l.steps) l.place (work_left l.budget) folds
+abbrev pub invariant-loop-index : goal.invariant-loop-index
+invariant-loop-index g l = (folds : List EntryFold) × g.S.FoldSink.takes l.initial.sink folds l.sink × ArePut l.index folds
+    × TextsTo l.texts (model l.case) (tuples_of l.steps) l.index (work_left l.budget) folds
     × IsBudgetFor (tuples_of l.steps) l.budget

@@ -1,10 +1,10 @@
 use Rattle.std.proofs.Common.{◌≡◌, refl, ℕ, ◌+◌, ◌*◌, ◌<◌, ◌≤◌, length, drop, List, ◌++◌, sym, ap, ◌∙◌, subst, arith, le_trans, length-drop, ◌-◌, rules}
 use Rattle.std.proofs.lemmas.{Nat.{mul-le}, Result.{IfOk-weaker}, List.{take_all}, Grind.{common_steps}}
 use Rattle.std.specs.{Prelude.{All}, Arc.{arc_slice_items}}
-use Rattle.spki_tag.specs.{Tag.{Tag, IsNormalTag, tags, nodes, nodes_all, list, most_nodes}, Meet.{meet, each_meet, pairs, row, gather, may_share, places_where, tags_at}}
+use Rattle.spki_tag.specs.{Tag.{Tag, IsNormalTag, tags, nodes, nodes_all, list, max_nodes}, Meet.{meet, each_meet, pairs, row, gather, may_share, positions_where, tags_at}}
 use Rattle.spki_tag.specs.{Nodes.{node_tag, shared_items}}
-use Rattle.spki_tag.proofs.{Places.{places_where-within, row_at_places}, Members.{nodes_le-of_read}}
-use Rattle.spki_tag.proofs.MeetCosts.{each-step, rest-nodes, place-step, row-step, members-met, lists-met, meet_cost-some}
+use Rattle.spki_tag.proofs.{Positions.{positions_where-within, row_at_positions}, Members.{nodes_le-of_read}}
+use Rattle.spki_tag.proofs.MeetCosts.{each-step, rest-nodes, position-step, row-step, members-met, lists-met, meet_cost-some}
 use Rattle.spki_tag.proofs.MeetSteps.{all_met, tags-members, members_meet, pairs-step, each_meet-last, meet_steps}
 use Rattle.spki_tag.proofs.intersection.+meet.Goals as goal
 
@@ -13,26 +13,26 @@ meet_members-push_row-pushed-requires g t c =
     let others = tags c.args.others.now in
     let less : nodes c.one-item.result ≤ nodes_all (tags c.args.ones.now) =
     nodes_le-of_read c.args.ones.now c.loop-one.one-index c.one-item.result c.loop-one-test.true c.one-item.is in
-    let bound : nodes c.one-item.result * nodes_all others ≤ most_nodes =
+    let bound : nodes c.one-item.result * nodes_all others ≤ max_nodes =
     le_trans (mul-le (nodes c.one-item.result) (nodes_all others) (nodes_all (tags c.args.ones.now)) (nodes_all others) less (omega arith)) c.requires.bound in
     let within : All (λ n. (1 ≤ n) × (n < 1 + length c.args.others.now)) c.deref.result.now =
-    rw (c.deref.ensures.value, c.in_ok-places.ensures, c.in_ok-index.ensures)
-    (places_where-within (may_share c.one-item.result) 1 c.args.others.now) in
+    rw (c.deref.ensures.value, c.in_ok-positions.ensures, c.in_ok-index.ensures)
+    (positions_where-within (may_share c.one-item.result) 1 c.args.others.now) in
     search (rules, bound, within, less)
 
 pub meet_members-loop-one-preserved : goal.meet_members-loop-one-preserved
 meet_members-loop-one-preserved g t c =
     let one = c.one-item.result in
     let others = c.args.others.now in
-    let places = c.in_ok-places.places.items in
-    let found : places ≡ places_where (may_share one) 1 others =
-    c.in_ok-places.ensures ∙ ap (places_where (may_share one) 1) c.in_ok-index.ensures in
-    let same : row (meet one) (tags (tags_at others places)) ≡ row (meet one) (tags others) =
-    ap (λ (ps : List ℕ). row (meet one) (tags (tags_at others ps))) found ∙ sym (row_at_places one others) in
-    let pushed : c.push_row-pushed.new.met.items ≡ c.loop-one.met.items ++ row (meet one) (tags (tags_at others places)) =
+    let positions = c.in_ok-positions.positions.items in
+    let found : positions ≡ positions_where (may_share one) 1 others =
+    c.in_ok-positions.ensures ∙ ap (positions_where (may_share one) 1) c.in_ok-index.ensures in
+    let same : row (meet one) (tags (tags_at others positions)) ≡ row (meet one) (tags others) =
+    ap (λ (ps : List ℕ). row (meet one) (tags (tags_at others ps))) found ∙ sym (row_at_positions one others) in
+    let pushed : c.push_row-pushed.new.met.items ≡ c.loop-one.met.items ++ row (meet one) (tags (tags_at others positions)) =
     rw c.deref.ensures.value at c.in_ok-pushed.ensures.value in (
       pairs-step c.args.ones.now others c.loop-one.met.items c.push_row-pushed.new.met.items
-          (pairs (tags c.args.ones.now) (tags others)) (row (meet one) (tags (tags_at others places)))
+          (pairs (tags c.args.ones.now) (tags others)) (row (meet one) (tags (tags_at others positions)))
           c.loop-one.one-index one c.loop-one-test.true c.loop-one.invariant.0 c.one-item.is pushed same,
       row-step c.args.ones.now others c.loop-one.one-index one c.loop-one.ticks c.push_row-pushed.new.ticks _ c.loop-one-test.true c.one-item.is
           (rw found at (rw c.deref.ensures.value at c.push_row-pushed.ensures.cost)) c.loop-one.invariant.1,
@@ -133,9 +133,9 @@ meet_each-returns-clause-cost g t c =
 
 pub meet_members-returns-in_err-pushed-clause-cost : goal.meet_members-returns-in_err-pushed-clause-cost
 meet_members-returns-in_err-pushed-clause-cost g t c =
-    let places = c.in_ok-places.places.items in
-    let found : places ≡ places_where (may_share c.one-item.result) 1 c.args.others.now =
-    c.in_ok-places.ensures ∙ ap (places_where (may_share c.one-item.result) 1) c.in_ok-index.ensures in
+    let positions = c.in_ok-positions.positions.items in
+    let found : positions ≡ positions_where (may_share c.one-item.result) 1 c.args.others.now =
+    c.in_ok-positions.ensures ∙ ap (positions_where (may_share c.one-item.result) 1) c.in_ok-index.ensures in
     omega (
       arith,
       row-step c.args.ones.now c.args.others.now c.loop-one.one-index c.one-item.result c.loop-one.ticks c.push_row-pushed.new.ticks _
@@ -157,28 +157,28 @@ pub meet_tags-returns-then-has_set-clause-cost : goal.meet_tags-returns-then-has
 meet_tags-returns-then-has_set-clause-cost g t c =
     search (rules, members-met c.args.one.now c.args.other.now c.members.result.now c.members-then-has_set.result.now c.args.ticks.now c.tick.new.self c.meet_members.new.ticks)
 
-pub push_row-loop-place-preserved : goal.push_row-loop-place-preserved
-push_row-loop-place-preserved g t c = (
+pub push_row-loop-position-preserved : goal.push_row-loop-position-preserved
+push_row-loop-position-preserved g t c = (
   grind (arith, common_steps),
-  place-step c.args.one.now c.args.others.now c.args.places.now c.loop-place.place-index c.index-others-place.result c.loop-place.ticks
-      c.meet_tags.new.ticks _ c.loop-place-test.true c.requires.places c.index-others-place.is c.meet_tags.ensures.cost c.loop-place.invariant.1,
-  omega (arith, c.loop-place.invariant.2, c.meet_tags.ensures.grows),
+  position-step c.args.one.now c.args.others.now c.args.positions.now c.loop-position.position-index c.index-others-position.result c.loop-position.ticks
+      c.meet_tags.new.ticks _ c.loop-position-test.true c.requires.positions c.index-others-position.is c.meet_tags.ensures.cost c.loop-position.invariant.1,
+  omega (arith, c.loop-position.invariant.2, c.meet_tags.ensures.grows),
 )
 
 pub push_row-returns-in_err-member-clause-cost : goal.push_row-returns-in_err-member-clause-cost
 push_row-returns-in_err-member-clause-cost g t c =
     omega (
       arith,
-      place-step c.args.one.now c.args.others.now c.args.places.now c.loop-place.place-index c.index-others-place.result c.loop-place.ticks
-          c.meet_tags.new.ticks _ c.loop-place-test.true c.requires.places c.index-others-place.is c.meet_tags.ensures.cost c.loop-place.invariant.1,
+      position-step c.args.one.now c.args.others.now c.args.positions.now c.loop-position.position-index c.index-others-position.result c.loop-position.ticks
+          c.meet_tags.new.ticks _ c.loop-position-test.true c.requires.positions c.index-others-position.is c.meet_tags.ensures.cost c.loop-position.invariant.1,
     )
 
 pub push_row-returns-in_err-push_kept-clause-cost : goal.push_row-returns-in_err-push_kept-clause-cost
 push_row-returns-in_err-push_kept-clause-cost g t c =
     omega (
       arith,
-      place-step c.args.one.now c.args.others.now c.args.places.now c.loop-place.place-index c.index-others-place.result c.loop-place.ticks
-          c.meet_tags.new.ticks _ c.loop-place-test.true c.requires.places c.index-others-place.is c.meet_tags.ensures.cost c.loop-place.invariant.1,
+      position-step c.args.one.now c.args.others.now c.args.positions.now c.loop-position.position-index c.index-others-position.result c.loop-position.ticks
+          c.meet_tags.new.ticks _ c.loop-position-test.true c.requires.positions c.index-others-position.is c.meet_tags.ensures.cost c.loop-position.invariant.1,
     )
 
 pub meet_tags-returns-then-is_everything-clause-cost : goal.meet_tags-returns-then-is_everything-clause-cost
@@ -200,5 +200,5 @@ meet_members-returns-clause-value g t c =
 
 pub push_row-returns-clause-value : goal.push_row-returns-clause-value
 push_row-returns-clause-value g t c =
-    all_met (λ ps. row (meet c.args.one.now) (tags (tags_at c.args.others.now ps))) c.args.places.now c.loop-place.met.items _ c.loop-place.place-index refl
-    (omega (arith, c.loop-place-test.false)) c.loop-place.invariant.0
+    all_met (λ ps. row (meet c.args.one.now) (tags (tags_at c.args.others.now ps))) c.args.positions.now c.loop-position.met.items _ c.loop-position.position-index refl
+    (omega (arith, c.loop-position-test.false)) c.loop-position.invariant.0

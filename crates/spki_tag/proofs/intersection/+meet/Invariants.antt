@@ -35,10 +35,10 @@ invariant-meet_members-loop-one g l =
     ≤ l.fn.ticks + 3 * (nodes_all (tags l.ones) * node_costs (tags l.others)))
     × (l.fn.ticks ≤ l.ticks)
 
-abbrev pub invariant-push_row-loop-place : goal.invariant-push_row-loop-place
-invariant-push_row-loop-place g l =
-    (l.met.items ++ row (meet l.one) (tags (tags_at l.others (drop l.place-index l.places)))
-    ≡ l.fn.met.items ++ row (meet l.one) (tags (tags_at l.others l.places)))
-    × (l.ticks + 3 * (nodes l.one * node_costs (tags (tags_at l.others (drop l.place-index l.places))))
-    ≤ l.fn.ticks + 3 * (nodes l.one * node_costs (tags (tags_at l.others l.places))))
-    × (l.fn.ticks + l.place-index ≤ l.ticks)
+abbrev pub invariant-push_row-loop-position : goal.invariant-push_row-loop-position
+invariant-push_row-loop-position g l =
+    (l.met.items ++ row (meet l.one) (tags (tags_at l.others (drop l.position-index l.positions)))
+    ≡ l.fn.met.items ++ row (meet l.one) (tags (tags_at l.others l.positions)))
+    × (l.ticks + 3 * (nodes l.one * node_costs (tags (tags_at l.others (drop l.position-index l.positions))))
+    ≤ l.fn.ticks + 3 * (nodes l.one * node_costs (tags (tags_at l.others l.positions))))
+    × (l.fn.ticks + l.position-index ≤ l.ticks)

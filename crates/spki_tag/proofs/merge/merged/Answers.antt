@@ -1,5 +1,5 @@
 use Rattle.std.proofs.Common.{◌≤◌, length, ◌⊎◌, inl, inr}
-use Rattle.spki_tag.proofs.{Places.{joined-end}, merge.merged.Goals.{then-loop-i-test+else-j-ys, else-loop-i-test}}
+use Rattle.spki_tag.proofs.{Positions.{joined-end}, merge.merged.Goals.{then-loop-i-test+else-j-ys, else-loop-i-test}}
 use Rattle.spki_tag.proofs.merge.merged.Goals as goal
 
 pub returns : goal.returns

@@ -1,5 +1,5 @@
 use Rattle.std.proofs.Common.{◌≡◌, ◌+◌, ◌-◌, ◌≤◌, ◌++◌, length, drop}
-use Rattle.spki_tag.specs.Places.{merge}
+use Rattle.spki_tag.specs.Positions.{merge}
 use Rattle.spki_tag.proofs.merge.merged.Given as goal
 
 abbrev pub invariant-loop-i : goal.invariant-loop-i

@@ -30,8 +30,8 @@ read_members-returns-in_err-push-clause-named t c = search (rules, tags_read, me
 pub read_members-loop-first-preserved : goal.read_members-loop-first-preserved
 read_members-loop-first-preserved t c = search (rules, tags_read, members_read)
 
-pub read_plain_list-returns-then-used-ge-MOST_READ-clause-named : goal.read_plain_list-returns-then-used-ge-MOST_READ-clause-named
-read_plain_list-returns-then-used-ge-MOST_READ-clause-named t c = search (rules, tags_read, members_read)
+pub read_plain_list-returns-then-used-ge-MAX_READ-clause-named : goal.read_plain_list-returns-then-used-ge-MAX_READ-clause-named
+read_plain_list-returns-then-used-ge-MAX_READ-clause-named t c = search (rules, tags_read, members_read)
 
 pub read_plain_list-returns-in_err-members-clause-named : goal.read_plain_list-returns-in_err-members-clause-named
 read_plain_list-returns-in_err-members-clause-named t c = search (rules, tags_read, members_read)
@@ -39,8 +39,8 @@ read_plain_list-returns-in_err-members-clause-named t c = search (rules, tags_re
 pub read_plain_list-returns-in_err-octets-clause-named : goal.read_plain_list-returns-in_err-octets-clause-named
 read_plain_list-returns-in_err-octets-clause-named t c = search (rules, tags_read, members_read)
 
-pub read_plain_list-list_of-requires-clause-room : goal.read_plain_list-list_of-requires-clause-room
-read_plain_list-list_of-requires-clause-room t c = search (rules, tags_read, members_read)
+pub read_plain_list-list_of-requires-clause-bound : goal.read_plain_list-list_of-requires-clause-bound
+read_plain_list-list_of-requires-clause-bound t c = search (rules, tags_read, members_read)
 
 pub read_plain_list-list_of-requires-clause-normal : goal.read_plain_list-list_of-requires-clause-normal
 read_plain_list-list_of-requires-clause-normal t c = search (rules, tags_read, members_read)
@@ -54,8 +54,8 @@ read_starred-returns-in-List-clause-named t c = search (rules, tags_read, member
 pub read_starred-returns-in-String-Some-default-clause-named : goal.read_starred-returns-in-String-Some-default-clause-named
 read_starred-returns-in-String-Some-default-clause-named t c = search (rules, tags_read, members_read)
 
-pub read_tag-returns-then-used-ge-MOST_READ-clause-named : goal.read_tag-returns-then-used-ge-MOST_READ-clause-named
-read_tag-returns-then-used-ge-MOST_READ-clause-named t c = search (rules, tags_read, members_read)
+pub read_tag-returns-then-used-ge-MAX_READ-clause-named : goal.read_tag-returns-then-used-ge-MAX_READ-clause-named
+read_tag-returns-then-used-ge-MAX_READ-clause-named t c = search (rules, tags_read, members_read)
 
 pub read_tag-returns-in_err-of-in-String-None-default-clause-named : goal.read_tag-returns-in_err-of-in-String-None-default-clause-named
 read_tag-returns-in_err-of-in-String-None-default-clause-named t c = search (rules, tags_read, members_read)
@@ -67,8 +67,8 @@ pub put_members-put_member-requires : goal.put_members-put_member-requires
 put_members-put_member-requires t c =
     (omega (arith, c.decreases, so_far_weight _ _ _ _ _ _ _ (read_so_far _ _ _ _ _ _ c.loop-first.invariant) c.in-Some.ensures), c.loop-first.invariant.few)
 
-pub put_member-returns-then-used-ge-MOST_READ-clause-named : goal.put_member-returns-then-used-ge-MOST_READ-clause-named
-put_member-returns-then-used-ge-MOST_READ-clause-named t c = search (rules, tags_read, members_read)
+pub put_member-returns-then-used-ge-MAX_READ-clause-named : goal.put_member-returns-then-used-ge-MAX_READ-clause-named
+put_member-returns-then-used-ge-MAX_READ-clause-named t c = search (rules, tags_read, members_read)
 
 pub put_member-returns-in_err-push_member-in-None-clause-named : goal.put_member-returns-in_err-push_member-in-None-clause-named
 put_member-returns-in_err-push_member-in-None-clause-named t c = search (rules, tags_read, members_read)

@@ -3,9 +3,9 @@ use Rattle.sexpr_core.proofs.RecordLaws.{begins_within, bracket_hint, hint_brack
 use Rattle.sexpr_core.proofs.document.Doc.is_hinted.Goals as goal
 
 pub bounds-text-start : goal.bounds-text-start
-bounds-text-start c = rw c.text.ensures.octets (begins_within _ _ _ c.record-start.ensures.place)
+bounds-text-start c = rw c.text.ensures.octets (begins_within _ _ _ c.record-start.ensures.recorded)
 
 pub returns : goal.returns
 returns c =
-    let place = c.record-start.ensures.place in
-    rw c.text.ensures.octets (search (rules, bracket_hint _ _ _ 0 place, hint_bracket _ _ _ 0 place))
+    let recorded = c.record-start.ensures.recorded in
+    rw c.text.ensures.octets (search (rules, bracket_hint _ _ _ 0 recorded, hint_bracket _ _ _ 0 recorded))

@@ -1,9 +1,9 @@
 -- `next` returns the first text of those that may be read.
 use Rattle.std.proofs.{Common.{◌≡◌, ℕ, ◌<◌, ◌^◌, List, [], ◌∷◌, ◌++◌, refl, sym, ap, ◌∙◌, subst, w64}, raw_atomic.Walks.{proved_at}}
 use Rattle.spki_c.specs.declared.text.Text.{Text}
-use Rattle.spki_c.specs.contracts.{text.Text.{the_row as X, the_type}, readable.{TextPlace.{the_row as P}, Readable.{the_row as R}}}
-use Rattle.spki_c.specs.Readables.{texts_own, place_of}
-use Rattle.spki_c.proofs.{Counted.{pointer_typed}, readable.{TextPlace.TheLaws.{lowers}, Readable.next.Statement.{statement}}}
+use Rattle.spki_c.specs.contracts.{text.Text.{the_row as X, the_type}, readable.{TextSpan.{the_row as P}, Readable.{the_row as R}}}
+use Rattle.spki_c.specs.Readables.{texts_own, span_of}
+use Rattle.spki_c.proofs.{Counted.{pointer_typed}, readable.{TextSpan.TheLaws.{lowers}, Readable.next.Statement.{statement}}}
 use mir.Syntax.{named, ty_ptr}
 use lib.Dec.{T, lit<}
 use mathlib.Core.Bool.{◌&&◌, true}
@@ -52,7 +52,7 @@ next_spec 𝓤 𝓛 𝓜 𝓡 wired =
     let κ = z.0.0.0 in let q = z.0.1.0 in let x = z.0.3.0 in let d = z.0.3.1.0 in let rs = z.0.4.0 in let ws = z.0.4.1.0 in let h = x.now in
     let b = x.ref_ptr.0 in let o = x.ref_ptr.1 in
     let Run : List Val → SProp 𝓤 = λ xs. WpFn 𝓤 𝓛.H 𝓣.C 𝓣.Λ code.function xs (W.post z) in
-    let Asks : Type 0 = (t : Text) × (ts : List Text) × (h.texts ≡ t ∷ ts) × (d ≡ place_of t) in
+    let Asks : Type 0 = (t : Text) × (ts : List Text) × (h.texts ≡ t ∷ ts) × (d ≡ span_of t) in
     qed 𝓛 (((‵ (flft κ q) ⊛ ‵ ftrue) ⊛ ‵ (owns (MutRef (named 0) κ R ∷ P ∷ []) (x, (d, tt)) (rs, (ws, tt)))) ∷ raw (fact 𝓤 Asks) ∷ []) ∵
     split ! $ split ! $ move ! (1 ∷ []) $ drop ! $ move ! (2 ∷ []) $ heard ! Asks (λ asks. move ! (1 ∷ []) $ fsplit3 ! $ move ! (1 ∷ []) $
     peeks ! P _ (shows 𝓛 P) d ws (λ there. drop ! $ fsplit3 ! $ feq_l ! (λ ev. keep ! (0 ∷ 1 ∷ 3 ∷ []) $
@@ -64,7 +64,7 @@ next_spec 𝓤 𝓛 𝓜 𝓡 wired =
     let low = fits d ws there in
     sets ! (agg ! (and_then ! (get_in ! (fld ! refl (stop !)) (sub ! 0 refl (whole !))) (and_then ! (get_in ! (fld ! refl (stop !)) (sub ! 1 refl (whole !))) (no_more !)))) refl (typed d.at d.count low) $
     -- [the text; the others; what the fields own; the cell; the open borrow; the two parts of its name]
-    let h' : R.Denot = record { texts = ts } in let same : d ≡ place_of t = asks.3 in
+    let h' : R.Denot = record { texts = ts } in let same : d ≡ span_of t = asks.3 in
     move ! (2 ∷ 1 ∷ []) $ fjoin ! $ move ! (2 ∷ 0 ∷ 3 ∷ 4 ∷ 5 ∷ []) $ closes ! tt R h' us b o $
     -- [the two parts of the reference; the token; what the text owns]
     returns ! (look_at ! 0 refl) $ free_all ! refl $ keep ! (0 ∷ 1 ∷ 2 ∷ 3 ∷ []) $
@@ -74,6 +74,6 @@ next_spec 𝓤 𝓛 𝓜 𝓡 wired =
     -- [the reference; the token; what the text owns]
     nothing ! $ owned ! usize (Is usize) (uint_Makes 𝓛 w64) t.count (vint w64 t.count ∷ []) (refl, subst (λ (p : P.Denot). p.count < 2 ^ 64) same low) $ fjoin ! $
     feq_i ! (List Val) (ptr_val t.at ∷ []) (ptr_val t.at ∷ []) refl $ fjoin ! $
-    feq_i ! (List Val) (v ∷ []) (lowers.lowered (place_of t) ∷ []) (ap (λ p. lowers.lowered p ∷ []) same) $ fjoin ! $
+    feq_i ! (List Val) (v ∷ []) (lowers.lowered (span_of t) ∷ []) (ap (λ p. lowers.lowered p ∷ []) same) $ fjoin ! $
     fpack ! (Valss (RawPtr ∷ usize ∷ [])) (within (shape the_type) (t.at, (t.count, tt)) (v ∷ [])) (ptr_val t.at ∷ [], (vint w64 t.count ∷ [], tt)) $
     move ! (0 ∷ 3 ∷ []) $ fjoin ! $ nothing ! $ move ! (3 ∷ 0 ∷ []) $ join ! $ move ! (0 ∷ 2 ∷ 1 ∷ []) $ done !))))))

@@ -2,7 +2,7 @@ use Rattle.std.proofs.Common.{◌≡◌, ℕ, List, [], ◌∷◌, ◌++◌, suc
 use Rattle.std.proofs.lemmas.{List.{reverse-append}, Option.{get_or_from_slice_get, slice_get_within}}
 use Rattle.spki_cert.proofs.names.Names.behind.Goals as goal
 
--- one more name is put in front: in reverse, `front` is then the names of `others` from place k on, and those before
+-- one more name is put in front: in reverse, `front` is then the names of `others` from index k on, and those before
 one-more : (others before front : List (List ℕ)) (name : List ℕ) (k n : ℕ) → n ≡ suc k → slice_get others k ≡ Some name
     → reverse front ≡ drop n others ++ before → reverse (front ++ name ∷ []) ≡ drop k others ++ before
 one-more others before front name k n count here so =

@@ -5,7 +5,7 @@ use Rattle.spki_guard.proofs.fold_printer.FoldPrinter.end.Goals as goal
 pub returns-then-self-eq0-clause-large : goal.returns-then-self-eq0-clause-large
 returns-then-self-eq0-clause-large c folds h e =
     let (output, is, less) = c.within.ensures.large e in
-    none_long c.args.most folds c.args.self h c.if-self-eq0.true (rw is at less)
+    none_long c.args.max_octets folds c.args.self h c.if-self-eq0.true (rw is at less)
 
 pub returns-then-self-clause-large : goal.returns-then-self-clause-large
 returns-then-self-clause-large c folds h e =

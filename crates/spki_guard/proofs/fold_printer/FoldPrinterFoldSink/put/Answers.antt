@@ -8,7 +8,7 @@ returns-then-self-2 c start folds taken numbered unused =
     let done : c.if-self.self ≡ (c.args.self.now.some_done || is_done c.args.fold) =
     elim c.if-self.branch [ then-self w ↦ search rules | else-self w ↦ search rules ] in
     let (line, is) = c.prove_line.ensures in
-    still_long start.room folds c.args.fold c.args.entry numbered c.args.self.now _ (taken unused) line is refl done c.if-self-2.true
+    still_long start.remaining folds c.args.fold c.args.entry numbered c.args.self.now _ (taken unused) line is refl done c.if-self-2.true
     c.if-self-2.true
 
 pub returns-in-Ok : goal.returns-in-Ok
@@ -16,7 +16,7 @@ returns-in-Ok c start folds taken numbered unused =
     let done : c.if-self.self ≡ (c.args.self.now.some_done || is_done c.args.fold) =
     elim c.if-self.branch [ then-self w ↦ search rules | else-self w ↦ search rules ] in
     let (line, is, text, sum) = rw c.in-Ok.is at c.append_line-appended.ensures.line in
-    printed start.room folds c.args.fold c.args.entry numbered c.args.self.now _ (taken unused) line is refl done c.if-self-2.false
+    printed start.remaining folds c.args.fold c.args.entry numbered c.args.self.now _ (taken unused) line is refl done c.if-self-2.false
     c.if-self-2.false text sum
 
 pub returns-in-Err-TooLarge : goal.returns-in-Err-TooLarge
@@ -24,4 +24,4 @@ returns-in-Err-TooLarge c start folds taken numbered unused =
     let done : c.if-self.self ≡ (c.args.self.now.some_done || is_done c.args.fold) =
     elim c.if-self.branch [ then-self w ↦ search rules | else-self w ↦ search rules ] in
     let (line, is, less) = c.append_line-appended.ensures.large (search rules) in
-    longer start.room folds c.args.fold c.args.entry numbered c.args.self.now _ (taken unused) line is refl done c.if-self-2.false refl less
+    longer start.remaining folds c.args.fold c.args.entry numbered c.args.self.now _ (taken unused) line is refl done c.if-self-2.false refl less

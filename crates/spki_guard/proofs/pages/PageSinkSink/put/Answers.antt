@@ -4,4 +4,4 @@ use Rattle.spki_guard.proofs.pages.PageSinkSink.put.Goals as goal
 
 pub returns : goal.returns
 returns g c =
-    page_takes_both g.W.Write.contents _ _ _ [] _ (rw (c.append_if_room.ensures.full c.if-append_if_room.false) at c.write_page.ensures.takes) c.take_on_empty_page.ensures
+    page_takes_both g.W.Write.contents _ _ _ [] _ (rw (c.append_within_capacity.ensures.full c.if-append_within_capacity.false) at c.write_page.ensures.takes) c.take_on_empty_page.ensures

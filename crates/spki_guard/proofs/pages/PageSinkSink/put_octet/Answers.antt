@@ -4,5 +4,5 @@ use Rattle.spki_guard.proofs.pages.PageSinkSink.put_octet.Goals as goal
 
 pub returns : goal.returns
 returns g c =
-    page_takes_both g.W.Write.contents _ _ _ [] _ (rw (c.append_octet_if_room.ensures.full c.if-append_octet_if_room.false) at c.write_page.ensures.takes)
+    page_takes_both g.W.Write.contents _ _ _ [] _ (rw (c.append_octet_within_capacity.ensures.full c.if-append_octet_within_capacity.false) at c.write_page.ensures.takes)
     c.take_on_empty_page.ensures

@@ -1,7 +1,7 @@
 use Rattle.std.proofs.{Common.{◌≡◌, ◌∙◌, ap, map, None, Some}, lemmas.Result.{IfOk-weaker}}
 use Rattle.spki_cert.specs.{declared.hash.HashAlg.TheVariants.{Sha1, Sha256, Sha512}, Naming.{names}}
 use Rattle.spki_service.{specs.AccessLists.{numbers_from, numbers_with, row_number}, proofs.IndexLaws.{found_all}}
-use Rattle.spki_tag.specs.Places.{merge}
+use Rattle.spki_tag.specs.Positions.{merge}
 use Rattle.spki_service.proofs.index.EntryIndex.numbers_for.Goals as goal
 
 -- the numbers of the key itself, and those of its hashes

@@ -1,5 +1,5 @@
 use Rattle.std.proofs.Common.{inl, inr, refl, subst, ap, ◌∙◌, length, List, Bool, Some, None}
-use Rattle.spki_service.{specs.GuardQuestions.{IsFirstUnmarked}, proofs.MarkedPlaces.{all_below, unmarked_there, read_marked}}
+use Rattle.spki_service.{specs.GuardQuestions.{IsFirstUnmarked}, proofs.MarkedIndices.{all_below, unmarked_there, read_marked}}
 use Rattle.spki_service.proofs.owned_question.OwnedQuestion.grant_by.Goals as goal
 
 pub returns-in-None : goal.returns-in-None

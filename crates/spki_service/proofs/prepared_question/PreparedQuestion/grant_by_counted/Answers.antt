@@ -28,4 +28,4 @@ returns-in-None-clause-each g c tuples es shows are all =
 pub returns-in-Some-clause-each : goal.returns-in-Some-clause-each
 returns-in-Some-clause-each g c tuples es shows are all none =
     let unmarked = rw c.in-Some.is at c.unmarked_counted.ensures.answer in
-    absurd (unmarked.not_marked (all unmarked.place _ unmarked.stands))
+    absurd (unmarked.not_marked (all unmarked.index _ unmarked.stands))

@@ -35,7 +35,7 @@ returns-in_ok-fold_texts_counted-in-Passes-clause-cost g c counted =
     omega (
       arith,
       c.in_ok-fold_texts_counted-in-Passes.ensures.cost (ap (λ (x : Case). x.uncounted) case_is ∙ counted),
-      ap (λ (x : Case). x.most_work) case_is,
+      ap (λ (x : Case). x.max_work) case_is,
       ap all_octets texts_are,
       ap length texts_are,
     )
@@ -48,7 +48,7 @@ returns-in_err-fold_texts_counted-in-Passes-clause-cost g c counted =
     omega (
       arith,
       c.in_err-fold_texts_counted-in-Passes.ensures.cost (ap (λ (x : Case). x.uncounted) case_is ∙ counted),
-      ap (λ (x : Case). x.most_work) case_is,
+      ap (λ (x : Case). x.max_work) case_is,
       ap all_octets texts_are,
       ap length texts_are,
     )

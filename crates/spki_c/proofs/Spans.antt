@@ -72,7 +72,7 @@ member_there v begins number m rest l =
     record {
       is = ap (λ w. slice_get (parts w) number) l.is ∙ ap (λ n. slice_get (parts (group all)) n) (sym here) ∙ got;
       begins = l.long ∙ ap (λ vs. 1 + length (canons (values vs))) (sym front);
-      place = subst (λ (w : Value). LiesAt (canon w) (canon m) begins) (sym l.is) (subst (λ (n : ℕ). LiesAt (canon (group all)) (canon m) n) (sym l.long) (lies l.before rest m));
+      offset = subst (λ (w : Value). LiesAt (canon w) (canon m) begins) (sym l.is) (subst (λ (n : ℕ). LiesAt (canon (group all)) (canon m) n) (sym l.long) (lies l.before rest m));
     }
 
 pub no_member : (v : Value) (begins left number : ℕ) → Left v begins left number [] → slice_get (parts v) number ≡ None
@@ -115,7 +115,7 @@ pub path_there : (v m : Value) (n at inner count : ℕ) (path : List ℕ) → Is
 path_there v m n at inner count path is s = record {
   octets = s.octets;
   there_is = ap (λ o. if_there o (λ w. octets_at w path)) is.is ∙ s.there_is;
-  place = lies_within (canon v) (canon m) s.octets at inner is.place s.place;
+  offset = lies_within (canon v) (canon m) s.octets at inner is.offset s.offset;
   counted = s.counted;
 }
 
@@ -198,7 +198,7 @@ string_begins v hint octets whole is all =
     let long : length whole ≡ length (canon v) = ap length all in
     (octets, sym (ap octets_of is), omega (arith, short, long))
 
--- the octets that lie at a place of a text are the part of the text there
+-- the octets that lie at an offset of a text are the part of the text there
 pub part_at : (text octets : List ℕ) (at count : ℕ) → LiesAt text octets at → count ≡ length octets
     → take (at + count - at) (drop at text) ≡ octets
 part_at text octets at count l counted =
@@ -207,8 +207,8 @@ part_at text octets at count l counted =
     ap (drop at) l.parts ∙ ap (λ n. drop n (l.before ++ (octets ++ l.behind))) (sym l.begins) ∙ drop-append_seam l.before (octets ++ l.behind) in
     ap (λ n. take n (drop at text)) many ∙ ap (take (length octets)) front ∙ take-append_seam octets l.behind
 
--- what stands at a place of a text is the string, as the part of the text there
+-- what stands at an offset of a text is the string, as the part of the text there
 pub string_at : (text : List ℕ) (there : Option (List ℕ)) (at count : ℕ) → StandsIn text there at count
     → Some (take (at + count - at) (drop at text)) ≡ there
 string_at text there at count stands =
-    ap Some (part_at text stands.octets at count stands.place stands.counted) ∙ sym stands.there_is
+    ap Some (part_at text stands.octets at count stands.offset stands.counted) ∙ sym stands.there_is

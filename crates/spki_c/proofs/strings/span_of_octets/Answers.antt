@@ -1,6 +1,6 @@
 use Rattle.std.specs.Option.{option_copied}
-use Rattle.spki_c.proofs.Places.{string_stands, string_begins, string_short}
-use Rattle.spki_c.proofs.strings.place_of_octets.Goals as goal
+use Rattle.spki_c.proofs.Spans.{string_stands, string_begins, string_short}
+use Rattle.spki_c.proofs.strings.span_of_octets.Goals as goal
 
 pub overflow_sub-result : goal.overflow_sub-result
 overflow_sub-result c =

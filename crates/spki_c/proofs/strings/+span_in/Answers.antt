@@ -1,6 +1,6 @@
 use Rattle.std.proofs.Common.{arith, ◌-◌, length, get_or, take, drop}
-use Rattle.spki_c.proofs.Places.{path_found, path_head}
-use Rattle.spki_c.proofs.strings.+place_in.Goals as goal
+use Rattle.spki_c.proofs.Spans.{path_found, path_head}
+use Rattle.spki_c.proofs.strings.+span_in.Goals as goal
 
 pub returns-in_ok-inner-in-len1-up : goal.returns-in_ok-inner-in-len1-up
 returns-in_ok-inner-in-len1-up t c =

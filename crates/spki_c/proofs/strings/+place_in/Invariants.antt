@@ -1,5 +1,0 @@
-use Rattle.std.proofs.Common.{length}
-use Rattle.spki_c.proofs.strings.+place_in.Given as goal
-
-abbrev pub decreases-place_in : goal.decreases-place_in
-decreases-place_in l = length l.path.now
