@@ -11,6 +11,9 @@ struct handle { void *at; };
 struct parts { struct spki_text sequence, key, request, moment; bool is_worded; };
 /* The texts of a signature, and whether its value is one string. */
 struct texts { struct spki_signed signature; bool is_string; };
+/* A count of operations that exists only in contracts. It takes no octets, so nothing is read or written behind a pointer to it. */
+struct ticks { char nothing; };
+#define UNUSED_TICKS &(struct ticks){0}
 
 /* The parameters of a call that returns an answer, and the arguments with which it passes them on. */
 #define BUFFER_PARAMS void *buffer, size_t buffer_length, size_t *needed
@@ -25,13 +28,13 @@ uint32_t spki_c_guard_open(struct spki_text list, uint32_t policy, const struct 
 void spki_c_close(bool is_question, struct handle value, struct handle *back);
 size_t spki_c_guard_entries(struct handle *guard);
 uint32_t spki_c_guard_ask(struct handle *guard, struct parts parts, const struct spki_text *words, size_t word_count, const int64_t *seconds,
-                          size_t count, struct handle *asked, BUFFER_PARAMS);
+                          size_t count, struct handle *asked, BUFFER_PARAMS, struct ticks *ticks);
 size_t spki_c_asked_count(struct handle *asked);
 uint32_t spki_c_asked_signature(struct handle *asked, size_t index, struct texts *texts);
 uint32_t spki_c_asked_mark(struct handle asked, size_t index, struct handle *back);
-bool spki_c_asked_granted(struct handle *asked);
+bool spki_c_asked_granted(struct handle *asked, struct ticks *ticks);
 bool spki_c_asked_possible(struct handle *asked);
-uint32_t spki_c_asked_answer(uint32_t query, struct handle *asked, int64_t *until, BUFFER_PARAMS);
+uint32_t spki_c_asked_answer(uint32_t query, struct handle *asked, int64_t *until, BUFFER_PARAMS, struct ticks *ticks);
 uint32_t spki_c_string(struct spki_text text, const size_t *path, size_t depth, size_t *at, size_t *length);
 
 /* Whether a pointer to `count` values of `size` octets is misuse: null with a count, or more than memory can have. */
@@ -121,7 +124,7 @@ enum spki_status spki_guard_ask(const spki_guard *guard, const struct spki_quest
         && !is_misuse(own.words, own.word_count, sizeof *own.words)) {
         const struct parts parts = {own.sequence, own.key.text, own.request, own.moment, .is_worded = own.words};
         status = spki_c_guard_ask(LENT(guard), parts, own.words ? own.words : &(struct spki_text){0}, own.word_count,
-                                  own.seconds ? own.seconds : &(int64_t){0}, own.seconds ? 1 : 0, &handle, BUFFER_ARGS);
+                                  own.seconds ? own.seconds : &(int64_t){0}, own.seconds ? 1 : 0, &handle, BUFFER_ARGS, UNUSED_TICKS);
     }
     if (asked)
         *asked = handle.at;
@@ -159,7 +162,7 @@ enum spki_status spki_asked_mark(spki_asked *asked, size_t index)
 
 bool spki_asked_granted(const spki_asked *asked)
 {
-    return asked && spki_c_asked_granted(LENT(asked));
+    return asked && spki_c_asked_granted(LENT(asked), UNUSED_TICKS);
 }
 
 /* Answers a question, and says until when a yes holds. `query` is SPKI_CHECK, SPKI_EXPLAIN or SPKI_REDUCE. */
@@ -167,7 +170,7 @@ static struct spki_decision answer(enum spki_command query, const spki_asked *as
 {
     struct spki_decision decision = {SPKI_MISUSED, INT64_MIN};
     if (BEGIN_ANSWER() && asked)
-        decision.status = spki_c_asked_answer(query, LENT(asked), &decision.until, BUFFER_ARGS);
+        decision.status = spki_c_asked_answer(query, LENT(asked), &decision.until, BUFFER_ARGS, UNUSED_TICKS);
     return decision;
 }
 

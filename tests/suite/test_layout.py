@@ -1,5 +1,5 @@
 """Tests before anything is proved what else would fail late: that each source file is laid out as `rt fmt` lays it out, that each wrong body can be
-applied and was tried against the present promises, that no file is a link, and that CONTRIBUTING.md's line on the last run of `.ci/deep` names a
+applied and was tried against the present promises, that work is counted where contracts bound it, that no file is a link, and that CONTRIBUTING.md's line on the last run of `.ci/deep` names a
 commit of the history, no failure, and the seed of 1,000,000 texts or that only wrong bodies were tried."""
 import glob
 import os
@@ -63,6 +63,28 @@ def code_lines(lines: list[str], indentation: str) -> int:
     return sum(bool(line.strip()) and not line.strip().startswith("//") for line in body)
 
 
+# A function of Rattle: its name, what stands between the name and the body, and the body, which ends at a brace as far to the left as the function.
+FUNCTION = re.compile(r"^( *)(?:pub(?:\(crate\))? )?fn (\w+)(.*?)\n\1\{\n(.*?)^\1\}", re.MULTILINE | re.DOTALL)
+# Of these files, the counted function counts all octets that the one without a count, which is private, may compare.
+COUNTED_BEFORE = {"leaf.rt": "holds", "leaf_intersection.rt": "meet"}
+
+
+def calls_without_a_count() -> Iterator[str]:
+    """A line for each function with `ticks` of its caller whose body makes a new count, or calls what has a twin with a count, `NAME_counted`; and for
+    each file but that of `Ticks` that makes one by its fields. A contract that bounds the ticks would not see that work."""
+    sources = {path: text_of(path) for path in sorted(glob.glob(os.path.join(ROOT, "crates", "*", "src", "*.rt")))}
+    twins = {name for text in sources.values() for name in re.findall(r"\bpub(?:\(crate\))? fn (\w+)_counted\b", text)} - {"of"}
+    call = re.compile(rf"Ticks::new\(|ChainRequirement::of\(|(?<!window\.)\b(?:{'|'.join(sorted(twins))})\(")
+    for path, text in sources.items():
+        where, file = os.path.relpath(path, ROOT), os.path.basename(path)
+        if file != "ticks.rt" and re.search(r"\bTicks \{", text):
+            yield f"{where}: Ticks {{"
+        for _, name, head, body in FUNCTION.findall(text):
+            found = call.findall(body) if "ticks: &mut Ticks" in head else []
+            if found and found != [f"{COUNTED_BEFORE.get(file)}("]:
+                yield f"{where}: {name}: {', '.join(found)}"
+
+
 def git(*words):
     """Runs git in the repository. Returns the `CompletedProcess`, with its standard output as text, whatever its status."""
     return subprocess.run(["git", *words], cwd=ROOT, stdout=subprocess.PIPE, stderr=subprocess.DEVNULL, text=True)
@@ -90,6 +112,10 @@ class Layout(unittest.TestCase):
         said = WITHOUT.findall(text_of("CONTRIBUTING.md"))
         self.assertEqual(len(said), 1, "CONTRIBUTING.md has not one sentence on these functions, as WITHOUT has it")
         self.assertEqual(sorted(functions_without_wrong_bodies(int(said[0][0]))), sorted(re.findall(r"(\w+)`", said[0][1])))
+
+    def test_counted_code(self) -> None:
+        """Work that a contract bounds is counted into the caller's count, and into no other."""
+        self.assertEqual(list(calls_without_a_count()), [])
 
     def test_links(self) -> None:
         """`rt ci` refuses symbolic links in the repository, which git lists with the mode 120000."""

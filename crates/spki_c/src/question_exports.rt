@@ -1,11 +1,12 @@
 //! The exported functions for opened questions that a caller holds. `spki.c` calls them. In each, `lent` is the handle of a guard
 //! or a question that the call borrows. `asked` owns one before the call, and `back` after it; `handle` owns one after `DONE`. `alloc` and
-//! `readable` have no octets, so C passes nothing for them. For a slice C passes a pointer and the number of values.
-ghost use Rattle.std.specs.Prelude.{◌≡◌, ◌≢◌, ◌⊎◌, negsuc, None, Some, IsSome, false, length, slice_get};
+//! `readable` have no octets, so C passes nothing for them. For a slice C passes a pointer and the number of values. `ticks` counts operations, in
+//! contracts only (`spki_tag::Ticks`): C passes a pointer to nothing.
+ghost use Rattle.std.specs.Prelude.{◌≡◌, ◌≢◌, ◌⊎◌, ◌≤◌, ◌+◌, ◌*◌, ℕ, negsuc, None, Some, IsSome, false, length, slice_get};
 ghost use Rattle.spki_decision.specs.CertificateTests.{Signed};
 ghost use Rattle.spki_service.specs.{AccessLists.{GuardModel}, declared.{question.Question.{Question}, owned_question.OwnedQuestion.{OwnedQuestion}}};
-ghost use Rattle.spki_service.specs.GuardQuestions.{IsOpened};
-ghost use Rattle.spki_guard.specs.{declared.queries.Query.{Query}, HeldQuestions.{GrantsHeld, MayGrant}};
+ghost use Rattle.spki_service.specs.{GuardQuestions.{IsOpened}, Cost.{AsksOctets}};
+ghost use Rattle.spki_guard.specs.{declared.queries.Query.{Query}, HeldQuestions.{GrantsHeld, MayGrant, answer_ticks}};
 ghost use Rattle.spki_c.specs.Asking.{IsAmbiguous, IsQuestionOf, IsHeldQuestion, IsUnheld, AreLent, IsSignature};
 ghost use Rattle.spki_c.specs.{declared.handle_value.HandleValue.{HandleValue}, HandleValues.{HandsBack}, Guards.{query_number, IsAnswered}};
 ghost use Rattle.spki_c.specs.{Until.{IsHeldUntil}, Readables.{AreReadable}, Results.{IsMisuse}};
@@ -24,6 +25,7 @@ use crate::signatures::{SignatureTexts, texts_of};
 use spki_guard::{
     AskFault, OpenedAnswer, answer_opened, is_granted, is_possible, refused_question,
 };
+use spki_tag::Ticks;
 use std::alloc::Global;
 
 /// Opens a question for the guard of `lent`, and keeps on the heap all that its answers need. The caller holds the question by
@@ -50,6 +52,7 @@ pub extern "C" fn spki_c_guard_ask(
     handle: &mut Handle,
     buffer: &mut [u8],
     needed: &mut usize,
+    ticks: &mut Ticks,
 ) -> u32
     requires empty { handle.old.held ≡ None }
     requires readable { AreReadable words.now readable.texts }
@@ -63,6 +66,9 @@ pub extern "C" fn spki_c_guard_ask(
         → (handle.new ≡ handle.old) × IsMisuse buffer.old buffer.new needed.new result }
     ensures other { ((g : GuardModel) → lent.old.content ≢ HandleValue.Guard g)
         → (handle.new ≡ handle.old) × IsMisuse buffer.old buffer.new needed.new result }
+    ensures cost { (g : GuardModel) (shown found : ℕ) → lent.old.content ≡ HandleValue.Guard g
+        → ((q : Question) → IsQuestionOf parts readable.texts seconds.now q → AsksOctets g q shown found)
+        → ticks.new ≤ ticks.old + 4 * shown + 2 * found }
 {
     if !parts.are_lent() || parts.is_ambiguous(seconds) {
         return misused(needed);
@@ -78,7 +84,7 @@ pub extern "C" fn spki_c_guard_ask(
             return hand_over(answer, REFUSED, buffer, needed);
         }
     };
-    match open_parts(alloc, guard, parts, texts, seconds) {
+    match open_parts(alloc, guard, parts, texts, seconds, ticks) {
         Ok(opened) => {
             handle.hold(BoxPointer::of(opened));
             *needed = 0;
@@ -160,13 +166,14 @@ pub extern "C" fn spki_c_asked_mark(
 /// Whether the question of `lent` is granted, if exactly the marked signatures are valid. False if `lent` is the handle of a
 /// guard.
 #[unsafe(no_mangle)]
-pub extern "C" fn spki_c_asked_granted(lent: &mut BorrowedHandle) -> bool
+pub extern "C" fn spki_c_asked_granted(lent: &mut BorrowedHandle, ticks: &mut Ticks) -> bool
     ensures granted { (o : OwnedQuestion) (q : Question) → lent.old.content ≡ HandleValue.Question o → IsOpened o.guard q o
         → GrantsHeld o.guard q o.marks.items result }
     ensures other { ((o : OwnedQuestion) → lent.old.content ≢ HandleValue.Question o) → result ≡ false }
+    ensures cost { (o : OwnedQuestion) → lent.old.content ≡ HandleValue.Question o → ticks.new ≤ ticks.old + length o.signed.items }
 {
     match lent.content().question() {
-        Some(opened) => is_granted(opened),
+        Some(opened) => is_granted(opened, ticks),
         None => false,
     }
 }
@@ -203,6 +210,7 @@ pub extern "C" fn spki_c_asked_answer(
     until: &mut i64,
     buffer: &mut [u8],
     needed: &mut usize,
+    ticks: &mut Ticks,
 ) -> u32
     ensures until { (o : OwnedQuestion) (q : Question) → lent.old.content ≡ HandleValue.Question o → IsOpened o.guard q o → result ≡ 9
         → IsHeldUntil o.guard q o.marks.items until.new }
@@ -211,6 +219,8 @@ pub extern "C" fn spki_c_asked_answer(
         → IsOpened o.guard q o → IsAnswered w o.guard q o.marks.items buffer.old buffer.new needed.new result }
     ensures misused { ((w : Query) → query ≢ query_number w) → IsMisuse buffer.old buffer.new needed.new result }
     ensures other { ((o : OwnedQuestion) → lent.old.content ≢ HandleValue.Question o) → IsMisuse buffer.old buffer.new needed.new result }
+    ensures cost { (o : OwnedQuestion) (w : Query) (q : Question) → lent.old.content ≡ HandleValue.Question o → query ≡ query_number w
+        → IsOpened o.guard q o → ticks.new ≤ ticks.old + answer_ticks w o }
 {
     *until = i64::MIN;
     let Some(query) = query_of(query) else {
@@ -219,7 +229,7 @@ pub extern "C" fn spki_c_asked_answer(
     let Some(opened) = lent.content().question() else {
         return misused(needed);
     };
-    let OpenedAnswer { answer, grant } = answer_opened(alloc, query, opened);
+    let OpenedAnswer { answer, grant } = answer_opened(alloc, query, opened, ticks);
     let answered = query_status(query, answer.verdict);
     let status = hand_over(answer, answered, buffer, needed);
     *until = until_number(status, grant);

@@ -19,8 +19,6 @@ use spki_cert::{Date, Entry, Window};
 use spki_reduce::Step;
 use spki_tag::Ticks;
 use std::alloc::{AllocError, Global};
-use std::marker::Brand;
-use std::sync::ledger::{Blank, Ledger};
 
 /// What certificates require of an entry, so that both together grant what a case asks.
 #[derive(Drop)]
@@ -46,26 +44,7 @@ impl<'a> ChainRequirement<'a> {
         ensures answer { IfOk result (IsChainRequirement (model case.now) (tuples_of steps.now)) }
         ensures end { IfOk result (HasEnd (tuples_of steps.now)) }
     {
-        // `Brand` and `Blank` are for a count of ticks, which exists only in contracts: see `spki_tag::Ticks`.
-        ChainRequirement::of_with_new_count::<Brand>(alloc, case, steps, Blank::new(1))
-    }
-
-    /// Does what `of` does: calls `of_counted` with its arguments and a new count of ticks (operations that contracts count). The count exists only
-    /// in contracts, and is dropped afterwards. `blank` is a new ledger of the toolchain, to keep the count in; it must be that of `L`. `L` has a
-    /// name only in a generic function, such as this one: its caller writes `Brand` for it. Err if memory ran out.
-    fn of_with_new_count<L: Ledger>(
-        alloc: Global,
-        case: &Case<'a>,
-        steps: &[Step<'a>],
-        blank: Blank,
-    ) -> Result<ChainRequirement<'a>, AllocError>
-        requires name { blank.name ≡ L.name }
-        requires parts { blank.parts ≡ L.parts }
-        requires some { 0 < blank.parts }
-        ensures answer { IfOk result (IsChainRequirement (model case.now) (tuples_of steps.now)) }
-        ensures end { IfOk result (HasEnd (tuples_of steps.now)) }
-    {
-        ChainRequirement::of_counted(alloc, case, steps, &mut Ticks::<L>::new(blank))
+        ChainRequirement::of_counted(alloc, case, steps, &mut Ticks::new())
     }
 
     /// What certificates require of an entry, as `of`. The operations are added to `ticks`, a count that exists only in contracts. A tick is a
@@ -77,11 +56,11 @@ impl<'a> ChainRequirement<'a> {
     /// # Errors
     ///
     /// `AllocError` if memory ran out.
-    pub fn of_counted<L: Ledger>(
+    pub fn of_counted(
         alloc: Global,
         case: &Case<'a>,
         steps: &[Step<'a>],
-        ticks: &mut Ticks<L>,
+        ticks: &mut Ticks,
     ) -> Result<ChainRequirement<'a>, AllocError>
         ensures answer { IfOk result (IsChainRequirement (model case.now) (tuples_of steps.now)) }
         ensures end { IfOk result (HasEnd (tuples_of steps.now)) }
@@ -107,33 +86,14 @@ impl<'a> ChainRequirement<'a> {
         ensures { (tuples : List Tuple) → IsChainRequirement (model case.now) tuples self.now
             → IsTrue result ↔ Supported (model case.now) tuples entry.now }
     {
-        // `Brand` and `Blank` are for a count of ticks, which exists only in contracts: see `spki_tag::Ticks`.
-        self.grants_with_new_count::<Brand>(entry, case, Blank::new(1))
-    }
-
-    /// Does what `grants` does: calls `grants_counted` with its arguments and a new count of ticks (operations that contracts count). The count
-    /// exists only in contracts, and is dropped afterwards. `blank` is a new ledger of the toolchain, to keep the count in; it must be that of `L`.
-    /// `L` has a name only in a generic function, such as this one: its caller writes `Brand` for it.
-    fn grants_with_new_count<L: Ledger>(&self, entry: &Entry, case: &Case, blank: Blank) -> bool
-        requires name { blank.name ≡ L.name }
-        requires parts { blank.parts ≡ L.parts }
-        requires some { 0 < blank.parts }
-        ensures { (tuples : List Tuple) → IsChainRequirement (model case.now) tuples self.now
-            → IsTrue result ↔ Supported (model case.now) tuples entry.now }
-    {
-        self.grants_counted(entry, case, &mut Ticks::<L>::new(blank))
+        self.grants_counted(entry, case, &mut Ticks::new())
     }
 
     /// Whether an entry and the certificates grant what the case asks, as `grants`. `case` must be the one that `of` was called with. The
     /// operations are added to `ticks`, a count that exists only in contracts. A tick is the entry, or a name or a tag in it that is looked
     /// at, or an octet of it that is compared. If the answer is true, there is at least one for the entry, each of its names, each octet of
     /// its subject, and what has to be tested of its tag (`tested_weight`). Making the digest of a key is not counted.
-    pub fn grants_counted<L: Ledger>(
-        &self,
-        entry: &Entry,
-        case: &Case,
-        ticks: &mut Ticks<L>,
-    ) -> bool
+    pub fn grants_counted(&self, entry: &Entry, case: &Case, ticks: &mut Ticks) -> bool
         ensures answer { (tuples : List Tuple) → IsChainRequirement (model case.now) tuples self.now
             → IsTrue result ↔ Supported (model case.now) tuples entry.now }
         ensures cost { ticks.new ≤ ticks.old + entry_weight entry.now }
@@ -164,12 +124,7 @@ impl<'a> ChainRequirement<'a> {
 /// Whether the tags of all steps contain the request of a case, and their windows its moment. If so, `until` becomes the earliest not-after of
 /// these windows and of what it was. If not, some windows may be left out, and `until` means nothing. A tick of `ticks`, which exist only in
 /// contracts, is a step, a tag in its tag that is looked at, or an octet that is compared.
-fn all_contain<L: Ledger>(
-    steps: &[Step],
-    case: &Case,
-    until: &mut Option<Date>,
-    ticks: &mut Ticks<L>,
-) -> bool
+fn all_contain(steps: &[Step], case: &Case, until: &mut Option<Date>, ticks: &mut Ticks) -> bool
     ensures answer { IsTrue result ↔ ((in_each case.now.request (all_tags (tuples_of steps.now)) ≡ true)
         × (within_each case.now.moment (all_windows (tuples_of steps.now)) ≡ true)) }
     ensures end { IsTrue result → (windows : List Window) → IsLeastEnd windows until.old
@@ -220,7 +175,7 @@ fn earlier_end(limit: &Option<Date>, window: &Window) -> Option<Date>
 
 /// Whether the tag of a step contains the request of a case, and its window the moment. A definition has no tag, so only its window
 /// counts. A tick of `ticks`, which exist only in contracts, is the step, a tag in its tag that is looked at, or an octet that is compared.
-fn contains<L: Ledger>(step: &Step, case: &Case, ticks: &mut Ticks<L>) -> bool
+fn contains(step: &Step, case: &Case, ticks: &mut Ticks) -> bool
     ensures answer { IsTrue result ↔ ((in_each case.now.request (tags_of (step_tuple step.now)) ≡ true)
         × (within_each case.now.moment (windows_of (step_tuple step.now)) ≡ true)) }
     ensures cost { ticks.new ≤ ticks.old + content_weight (step_tuple step.now) }

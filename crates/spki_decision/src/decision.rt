@@ -17,8 +17,6 @@ use spki_cert::Entry;
 use spki_reduce::{ReduceFault, Step};
 use spki_tag::Ticks;
 use std::alloc::Global;
-use std::marker::Brand;
-use std::sync::ledger::{Blank, Ledger};
 
 /// Whether an entry of a case's access list grants the request, and which is the first that does.
 #[derive(Clone, Copy, Debug, PartialEq, Eq)]
@@ -61,38 +59,31 @@ pub fn decide<V: Verifier>(alloc: Global, case: &Case, verifier: &V) -> Result<D
 {
     match judge(alloc, &case.sequence, case.policy, verifier)? {
         Evidence::Fails { .. } => Ok(Decision::No),
-        Evidence::Verified(steps) => {
-            // `Brand` and `Blank` are for a count of ticks, which exists only in contracts: see `spki_tag::Ticks`.
-            first_granting::<Brand>(alloc, case, &steps, Blank::new(1))
-        }
+        Evidence::Verified(steps) => first_granting(alloc, case, &steps),
     }
 }
 
 /// The first entry, from 1, of a case's access list that grants the request with certificates whose tuples are `steps`.
 /// `No` if no entry does. `ChainRequirement` decides without intersections, and refuses nothing. But `decide` must refuse an entry whose
 /// intersections are too large (its clause `within_limit`), so `require_small` tests each entry up to the first that grants, and no later one.
-/// `blank` opens the count of ticks that `fold_entry` needs. It exists only in contracts, and is dropped afterwards.
+/// The count of ticks that `fold_entry` needs is a new one: nothing is said of it.
 ///
 /// # Errors
 ///
 /// `TooLarge` at the first entry that `require_small` refuses, if no entry before it grants the request. `Memory` if memory ran out, or if
 /// a shared part has too many owners to count.
-fn first_granting<'a, L: Ledger>(
+fn first_granting<'a>(
     alloc: Global,
     case: &Case<'a>,
     steps: &[Step<'a>],
-    blank: Blank,
 ) -> Result<Decision, GuardFault>
-    requires name { blank.name ≡ L.name }
-    requires parts { blank.parts ≡ L.parts }
-    requires some { 0 < blank.parts }
     ensures named { IfOk result (Names (model case.now) (tuples_of steps.now)) }
     ensures too_large { IsErrOf result GuardFault.TooLarge → HasLarge (model case.now) (tuples_of steps.now) }
     ensures within_limit { IfOk result (SmallUpTo (model case.now) (tuples_of steps.now)) }
 {
     let requirement = ChainRequirement::of(alloc, case, steps)?;
     let mut budget = Budget::of(case, steps);
-    let mut ticks = Ticks::<L>::new(blank);
+    let mut ticks = Ticks::new();
     for (index, entry) in case.acl.iter().enumerate() {
         if let Err(fault) = require_small(alloc, entry, steps, case, &mut budget, &mut ticks) {
             drop(requirement);
@@ -111,13 +102,13 @@ fn first_granting<'a, L: Ledger>(
 /// spared passes: the numbers of nodes alone show that its intersections are small (`Sizes::are_small`). Any other is joined with the steps
 /// only to check the limits, and its work is taken from the budget. Whether it joins does not matter. `ticks` is only for the call of
 /// `fold_entry`. Err is `TooLarge` if the product of the nodes of two tags, or the work, is over its limit; or `Memory`.
-fn require_small<'a, L: Ledger>(
+fn require_small<'a>(
     alloc: Global,
     entry: &Entry<'a>,
     steps: &[Step<'a>],
     case: &Case<'a>,
     budget: &mut Budget,
-    ticks: &mut Ticks<L>,
+    ticks: &mut Ticks,
 ) -> Result<(), ReduceFault>
     requires { IsBudgetFor (tuples_of steps.now) budget.old }
     ensures too_large { IsErrOf result ReduceFault.TooLarge →

@@ -11,7 +11,6 @@ use spki_cert::Entry;
 use spki_reduce::{Five, Fold, Issuer, ReduceFault, Step, Work, fold_owned_counted};
 use spki_tag::Ticks;
 use std::alloc::{AllocError, Global};
-use std::sync::ledger::Ledger;
 
 /// Joins an entry's 5-tuple with the steps after it, from the left as `fold_owned_counted` does, under the policy and the limits of the case.
 /// Returns the authorization that they become, or the first step that does not join, and why. The work of the steps is taken from the budget,
@@ -24,13 +23,13 @@ use std::sync::ledger::Ledger;
 /// `TooLarge` if the product of the nodes of two tags that are to be intersected is over the case's `max_nodes`, or a step costs more than the
 /// budget has left. `Memory` if memory ran out, or if a shared part has too many owners to count. What was taken from the budget before an
 /// error stays taken.
-pub(crate) fn fold_entry<'a, L: Ledger>(
+pub(crate) fn fold_entry<'a>(
     alloc: Global,
     entry: &Entry<'a>,
     steps: &[Step<'a>],
     case: &Case<'a>,
     budget: &mut Budget,
-    ticks: &mut Ticks<L>,
+    ticks: &mut Ticks,
 ) -> Result<Fold<'a>, ReduceFault>
     requires { IsBudgetFor (tuples_of steps.now) budget.old }
     ensures fold { IfOk result (λ fold. MatchFold fold

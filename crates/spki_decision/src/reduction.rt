@@ -19,8 +19,6 @@ use spki_cert::Entry;
 use spki_reduce::{Cause, Five, Fold, Step};
 use spki_tag::Ticks;
 use std::alloc::Global;
-use std::marker::Brand;
-use std::sync::ledger::{Blank, Ledger};
 
 /// What an entry and all certificates become when they are joined, one after another.
 #[derive(Drop)]
@@ -149,51 +147,7 @@ pub fn entry_fold<'a>(
     ensures same_sizes { IsBudgetFor (tuples_of steps.now) budget.new }
     ensures within_limit { IfOk result (λ fold. ¬ TooLargeAt case.now.max_nodes case.now.policy (five (entry_tuple entry.now)) (tuples_of steps.now)) }
 {
-    // `Brand` and `Blank` are for a count of ticks, which exists only in contracts: see `spki_tag::Ticks`.
-    entry_fold_with_new_count::<Brand>(alloc, case, entry, shown, steps, budget, Blank::new(1))
-}
-
-/// Does what `entry_fold` does, with its arguments and its errors `TooLarge` and `Memory`: calls `entry_fold_counted` with a new count of ticks
-/// (operations that contracts count). The count exists only in contracts, and is dropped afterwards. `blank` is a new ledger of the toolchain, to
-/// keep the count in; it must be that of `L`. `L` has a name only in a generic function, such as this one: its caller writes `Brand` for it.
-fn entry_fold_with_new_count<'a, L: Ledger>(
-    alloc: Global,
-    case: &Case<'a>,
-    entry: &Entry<'a>,
-    shown: &[ShownCert<'_, 'a>],
-    steps: &[Step<'a>],
-    budget: &mut Budget,
-    blank: Blank,
-) -> Result<EntryFold<'a>, GuardFault>
-    requires whole { map shown_of shown.now ≡ certificates case.now.sequence.items }
-    requires as_many { length steps.now ≡ length (certificates case.now.sequence.items) }
-    requires sizes { IsBudgetFor (tuples_of steps.now) budget.old }
-    requires name { blank.name ≡ L.name }
-    requires parts { blank.parts ≡ L.parts }
-    requires some { 0 < blank.parts }
-    ensures exact { (es : List Entry) →
-        IfOk result (IsEntryFold (with_entries (model case.now) es) (tuples_of steps.now) entry.now) }
-    ensures issuer { IfOk result IsOwn }
-    ensures dated { IfOk result IsDated }
-    ensures end { IfOk result EndsAtDate }
-    ensures too_large { IsErrOf result GuardFault.TooLarge →
-        TooLargeAt case.now.max_nodes case.now.policy (five (entry_tuple entry.now)) (tuples_of steps.now)
-        ⊎ IsOvercharged case.now.policy case.now.uncounted (tuples_of steps.now) entry.now (work_left budget.old) }
-    ensures charged { OnOk result ((n : ℕ) × IsCharge case.now.policy case.now.uncounted (tuples_of steps.now) entry.now n
-        × Takes (work_left budget.old) (work_left budget.new) n) }
-    ensures left { TakesOfEntry (work_left budget.old) (work_left budget.new) case.now.policy case.now.uncounted (tuples_of steps.now) entry.now }
-    ensures same_sizes { IsBudgetFor (tuples_of steps.now) budget.new }
-    ensures within_limit { IfOk result (λ fold. ¬ TooLargeAt case.now.max_nodes case.now.policy (five (entry_tuple entry.now)) (tuples_of steps.now)) }
-{
-    entry_fold_counted(
-        alloc,
-        case,
-        entry,
-        shown,
-        steps,
-        budget,
-        &mut Ticks::<L>::new(blank),
-    )
+    entry_fold_counted(alloc, case, entry, shown, steps, budget, &mut Ticks::new())
 }
 
 /// Returns what an entry becomes when it is joined with all certificates, as `entry_fold`. `shown` are these certificates, and `steps` their
@@ -207,14 +161,14 @@ fn entry_fold_with_new_count<'a, L: Ledger>(
 /// `TooLarge` if the product of the nodes of two tags that are to be intersected is over the case's `max_nodes`, or the work is more than
 /// the budget has. `Memory` if memory ran out, or if a shared part has too many owners to count. What was taken from the budget before an
 /// error stays taken.
-pub fn entry_fold_counted<'a, L: Ledger>(
+pub fn entry_fold_counted<'a>(
     alloc: Global,
     case: &Case<'a>,
     entry: &Entry<'a>,
     shown: &[ShownCert<'_, 'a>],
     steps: &[Step<'a>],
     budget: &mut Budget,
-    ticks: &mut Ticks<L>,
+    ticks: &mut Ticks,
 ) -> Result<EntryFold<'a>, GuardFault>
     requires whole { map shown_of shown.now ≡ certificates case.now.sequence.items }
     requires as_many { length steps.now ≡ length (certificates case.now.sequence.items) }

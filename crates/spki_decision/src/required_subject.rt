@@ -11,7 +11,6 @@ use spki_cert::{Key, Names, Octets, Policy, Principal, Subject};
 use spki_reduce::{Five, Four, Issuer, Step};
 use spki_tag::Ticks;
 use std::alloc::{AllocError, Global};
-use std::sync::ledger::Ledger;
 
 /// What an authorization's subject must be so that certificates lead from it to a key: joined with them in order, whatever the tags and
 /// windows are, the authorization becomes one for this key.
@@ -35,12 +34,12 @@ pub(crate) struct RequiredSubject<'a> {
 /// # Errors
 ///
 /// `AllocError` if memory ran out.
-pub(crate) fn required_subject<'a, L: Ledger>(
+pub(crate) fn required_subject<'a>(
     alloc: Global,
     steps: &[Step<'a>],
     key: &Key<'a>,
     policy: Policy,
-    ticks: &mut Ticks<L>,
+    ticks: &mut Ticks,
 ) -> Result<Option<RequiredSubject<'a>>, AllocError>
     ensures answer { IfOk result (IsRequiredBy policy (tuples_of steps.now) key.now) }
     ensures cost { ticks.new ≤ ticks.old + paths_weight (tuples_of steps.now) }
@@ -65,12 +64,12 @@ pub(crate) fn required_subject<'a, L: Ledger>(
 impl<'a> RequiredSubject<'a> {
     /// Whether a subject is as required: it names the key under the policy, has exactly the names, and may delegate if it must. `propagate` says
     /// whether it may. A tick is a name of the subject that is looked at, or an octet of it that is compared. Allocates nothing.
-    pub(crate) fn is_met_by<L: Ledger>(
+    pub(crate) fn is_met_by(
         &self,
         subject: &Subject,
         propagate: bool,
         policy: Policy,
-        ticks: &mut Ticks<L>,
+        ticks: &mut Ticks,
     ) -> bool
         ensures answer { IsTrue result ↔ Meets policy self.now subject.now.principal subject.now.names propagate }
         ensures cost { ticks.new ≤ ticks.old + subject_weight subject.now }
@@ -84,12 +83,12 @@ impl<'a> RequiredSubject<'a> {
 
     /// The subject that is required before a step, if `self` is required after it. None if there is no such subject. `policy` says which
     /// hashes may name keys. Err if memory ran out. `ticks` counts as in `required_subject`, in contracts only.
-    fn before<L: Ledger>(
+    fn before(
         self,
         alloc: Global,
         step: &Step<'a>,
         policy: Policy,
-        ticks: &mut Ticks<L>,
+        ticks: &mut Ticks,
     ) -> Result<Option<RequiredSubject<'a>>, AllocError>
         ensures answer { IfOk result (IsRequiredBefore policy (step_tuple step.now) self.entry) }
         ensures cost { ticks.new ≤ ticks.old + path_weight (step_tuple step.now) }
@@ -107,12 +106,12 @@ impl<'a> RequiredSubject<'a> {
     /// issuer, without names, and it must be allowed to delegate (the field `delegation`), since it issued `next`. None if the subject and
     /// `propagate` of `next` are not as `self` requires, or if its issuer is the owner of the access list. A tick is a name of the subject of
     /// `next` that is looked at, or an octet of this subject that is compared.
-    fn before_authorization<L: Ledger>(
+    fn before_authorization(
         self,
         alloc: Global,
         next: &Five<'a>,
         policy: Policy,
-        ticks: &mut Ticks<L>,
+        ticks: &mut Ticks,
     ) -> Option<RequiredSubject<'a>>
         ensures answer { IsRequiredBefore policy (five (five_tuple next.now)) self.entry result }
         ensures cost { ticks.new ≤ ticks.old + subject_weight next.now.subject }
@@ -139,11 +138,11 @@ impl<'a> RequiredSubject<'a> {
     /// be allowed to delegate if `self` must. None if the names of `self` begin otherwise, or if the principal of the definition's subject
     /// does not name the key of `self`. Err if memory ran out. A tick is an octet of this principal, a name of the definition's subject that is
     /// compared, one of its octets, or the defined name.
-    fn before_definition<L: Ledger>(
+    fn before_definition(
         self,
         definition: &Four<'a>,
         policy: Policy,
-        ticks: &mut Ticks<L>,
+        ticks: &mut Ticks,
     ) -> Result<Option<RequiredSubject<'a>>, AllocError>
         ensures answer { IfOk result (IsRequiredBefore policy (four (four_tuple definition.now)) self.entry) }
         ensures cost { ticks.new ≤ ticks.old + 1 + subject_weight definition.now.subject }
@@ -171,11 +170,7 @@ impl<'a> RequiredSubject<'a> {
 /// The names that remain if those of `front` are removed from the beginning of `names`. None if `names` do not begin with them. Each name
 /// of `front` that is compared is a tick, and so is each of its octets.
 #[tactic(auto, using(crate::proofs::Costs::names_step))]
-fn names_after<'a, L: Ledger>(
-    names: Names<'a>,
-    front: &Names,
-    ticks: &mut Ticks<L>,
-) -> Option<Names<'a>>
+fn names_after<'a>(names: Names<'a>, front: &Names, ticks: &mut Ticks) -> Option<Names<'a>>
     ensures some { IfSome result (λ rest. names.entry ≡ front.now ++ rest) }
     ensures none { IfNone result ((rest : List (List ℕ)) → names.entry ≢ front.now ++ rest) }
     ensures cost { ticks.new ≤ ticks.old + names_weight front.now }
@@ -207,7 +202,7 @@ fn has_first(names: &Names, name: &Octets) -> bool
 /// Whether `one` and `other` are the same names in the same order. Each name of `one` that is compared is a tick, and so is each of its
 /// octets.
 #[tactic(auto, using(crate::proofs::ChainRequirements::same_more, crate::proofs::Costs::names_step))]
-fn are_same_names<L: Ledger>(one: &Names, other: &Names, ticks: &mut Ticks<L>) -> bool
+fn are_same_names(one: &Names, other: &Names, ticks: &mut Ticks) -> bool
     ensures answer { IsTrue result ↔ (one.now ≡ other.now) }
     ensures cost { ticks.new ≤ ticks.old + names_weight one.now }
     ensures exact { IsTrue result → ticks.new ≡ ticks.old + names_weight one.now }
@@ -226,7 +221,7 @@ fn are_same_names<L: Ledger>(one: &Names, other: &Names, ticks: &mut Ticks<L>) -
 }
 
 /// Counts a name that is looked at: one tick for it, and one for each of its octets.
-fn count_name<L: Ledger>(name: &Octets, ticks: &mut Ticks<L>)
+fn count_name(name: &Octets, ticks: &mut Ticks)
     ensures { ticks.new ≡ ticks.old + 1 + length name.now }
 {
     ticks.tick();
@@ -235,12 +230,7 @@ fn count_name<L: Ledger>(name: &Octets, ticks: &mut Ticks<L>)
 
 /// Whether a principal names a key, as `Principal::names`: it is this key, or a hash of it that may name keys under the policy. Each octet of
 /// the principal's own key or digest adds 1 to `ticks`, a count that exists only in contracts.
-fn is_name_of<L: Ledger>(
-    principal: &Principal,
-    key: &Key,
-    policy: Policy,
-    ticks: &mut Ticks<L>,
-) -> bool
+fn is_name_of(principal: &Principal, key: &Key, policy: Policy, ticks: &mut Ticks) -> bool
     ensures answer { result ≡ names policy principal.now key.now }
     ensures cost { ticks.new ≡ ticks.old + principal_weight principal.now }
 {

@@ -1,16 +1,17 @@
 -- Answers to a question that is asked of a guard: those of its case. There is one, unless memory ran out.
-use Rattle.std.proofs.Common.{◌≡◌, ◌≢◌, ◌⊎◌, ◌↔◌, ◌<◌, ◌≤◌, ℕ, List, [], Bool, IsTrue, Option, Some, None, IsSome, length, inl, inr, refl, ap, ◌∙◌, subst, arith, rules, Ok, Err, sym}
+use Rattle.std.proofs.Common.{◌≡◌, ◌≢◌, ◌⊎◌, ◌↔◌, ◌<◌, ◌≤◌, ◌+◌, ◌*◌, ℕ, List, [], Bool, IsTrue, Option, Some, None, IsSome, length, inl, inr, refl, ap, ◌∙◌, subst, arith, rules, Ok, Err, sym}
 use Rattle.spki_case.specs.Case.{Case}
 use Rattle.spki_decision.specs.declared.{decision.Decision.{Decision}, grant.Grant.{Grant}, explanation.Explanation.{Explanation}}
 use Rattle.spki_decision.specs.declared.{fault.GuardFault.TheVariants.{TooLarge}, reduction.EntryFold.{EntryFold}}
-use Rattle.spki_decision.specs.{CertificateTests.{every, with_entries}, Until.{decision_of}, Explained.{IsSameExplanation}}
+use Rattle.spki_decision.specs.{CertificateTests.{every, with_entries, asked}, Until.{decision_of}, Explained.{IsSameExplanation}}
 use Rattle.spki_decision.specs.Granted.{SomeTooLarge, IsYes}
 use Rattle.spki_decision.proofs.{OneDecision.{explained_one, explained_small, folds_small, one_answer}, Explanations.{one_failure}}
 use Rattle.spki_service.specs.GuardQuestions.{PreparedModel, Decides, DecidesMarked, GrantsMarked, ExplainsMarked, ReducesMarked, AreReducedMarked, IsReadFrom, IsOpened, AreReduced}
 use Rattle.spki_service.specs.declared.{owned_question.OwnedQuestion.{OwnedQuestion}, question.{Question.{Question}, AskFault.{AskFault}}}
 use Rattle.spki_service.specs.declared.failure.Failure.{Failure}
 use Rattle.spki_service.specs.{AccessLists.{GuardModel, AreEntries}, Questions.{certificates_in, HasFewStrings, IsRefused, IsAskedCase, asked_octets}}
-use Rattle.spki_service.proofs.{MarkedIndices.{by_both}, AnswerLaws.{decided_marked_one, marked_one}, OneAsking.{case-one, unrefused-one, refusal-one}}
+use Rattle.spki_service.proofs.{MarkedIndices.{by_both}, AnswerLaws.{decided_marked_one, marked_one}, OneAsking.{case-one, unrefused-one, refusal-one, asked_one}}
+use Rattle.spki_service.specs.Cost.{all_octets, fold_ticks, list_ticks}
 use Rattle.spki_guard.specs.declared.{printed.Printed.{Printed}, answers.Verdict.{Verdict, TheVariants.{Done, No, Refused}}}
 use Rattle.spki_guard.specs.declared.queries.Query.{Query, TheVariants.{Decide, Explain, Reduce}}
 use Rattle.spki_guard.specs.HeldQuestions.{ReadsQuestion, AnswersAsked, IsUnreadQuestion, IsAnswerHeld, HasGrant, GrantsHeld, MayGrant, IsUnreadFor, WritesAsked, IsTooLargeFor, AnswersHeld, beside}
@@ -33,6 +34,17 @@ reads held q c within is policy nodes work counted few few_strings =
 pub opened_reads : (held : GuardModel) (q : Question) (o : OwnedQuestion) (a : PreparedModel) → IsOpened held q o → IsReadFrom held o.texts a
     → ReadsQuestion held q a.case
 opened_reads held q o a opened read = search (rules, reads)
+
+-- an explanation or a reduction of a question that was opened, which is read again, takes at most the ticks of the guard's list
+pub answered_within : (held : GuardModel) (q : Question) (o : OwnedQuestion) (a : PreparedModel) → IsOpened held q o → IsReadFrom o.guard o.texts a
+    → (old new : ℕ) → new ≤ old + length (asked a.case) + fold_ticks a → new ≤ old + (length o.signed.items + list_ticks o.guard)
+answered_within held q o a opened read old new bound =
+    let kept = opened.kept in
+    let same : asked a.case ≡ o.signed.items =
+    asked_one q a.case kept.read.case (read.is q opened.texts) (kept.is.is q opened.texts) (read.policy ∙ sym kept.is.policy) ∙ sym kept.signed_are in
+    let signed : length (asked a.case) ≡ length o.signed.items = ap length same in
+    let list : fold_ticks a ≡ list_ticks o.guard = λ i. 4 * read.work i + all_octets (read.entries i) + 2 * length (read.entries i) in
+    omega (arith, bound, signed, list)
 
 pub answered : (query : Query) (held : GuardModel) (q : Question) (marks : List Bool) (a : PreparedModel) (x : Printed) → ReadsQuestion held q a.case
     → a.texts ≡ held.texts → a.answer ≡ held.answer → a.marks ≡ marks

@@ -1,8 +1,9 @@
 -- Questions that are asked of a guard: their answers, where a service marks the signatures that it has verified, and
 -- the lines of their refusals (RFC 2693, section 6).
-use Rattle.std.specs.Prelude.{ℕ, List, [], ◌≡◌, ◌⊎◌, ◌<◌, ◌≤◌, length, Bool, Option, None, IsSome, Ok, Err}
+use Rattle.std.specs.Prelude.{ℕ, List, [], ◌≡◌, ◌⊎◌, ◌<◌, ◌≤◌, ◌+◌, length, Bool, Option, None, IsSome, Ok, Err}
 use Rattle.spki_service.specs.GuardQuestions.{PreparedModel, DecidesMarked, ExplainsMarked, ReducesMarked, AreReducedMarked, GrantsMarked, IsGranted, IsPossible}
-use Rattle.spki_service.specs.{declared.{question.{AskFault.{AskFault}, Question.{Question}}, failure.Failure.{Failure}}, AccessLists.{GuardModel}}
+use Rattle.spki_service.specs.{declared.{question.{AskFault.{AskFault}, Question.{Question}}, failure.Failure.{Failure}}, AccessLists.{GuardModel}, Cost.{list_ticks}}
+use Rattle.spki_service.specs.declared.owned_question.OwnedQuestion.{OwnedQuestion}
 use Rattle.spki_service.specs.Questions.{certificates_in, HasFewStrings, IsRefused, IsAskedCase, asked_octets}
 use Rattle.spki_guard.specs.declared.answers.Verdict.{Verdict, TheVariants.{Done, Refused}}
 use Rattle.spki_guard.specs.declared.queries.Query.{Query, TheVariants.{Decide, Explain, Reduce}}
@@ -131,3 +132,11 @@ pub record MayGrant (held : GuardModel) (q : Question) (yes : Bool) : Type 0 whe
   pub case_read : Case
   pub read : ReadsQuestion held q case_read
   pub possible : IsPossible (beside held case_read []) yes
+
+-- ---- what an answer to a question that was opened costs
+
+-- The most ticks of an answer: one for each listed signature; for an explanation or a reduction also those of all entries of the guard.
+abbrev pub answer_ticks : Query → OwnedQuestion → ℕ
+answer_ticks Decide o = length o.signed.items
+answer_ticks Explain o = length o.signed.items + list_ticks o.guard
+answer_ticks Reduce o = length o.signed.items + list_ticks o.guard

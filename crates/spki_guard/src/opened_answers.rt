@@ -1,16 +1,18 @@
 //! The answers to questions that were opened for a guard, as lines.
 //! A value with many parts is freed by a call of `drop`, so that the proof does not go through its parts at each exit.
-ghost use Rattle.std.specs.Prelude.{◌≡◌, ◌⊎◌, None, IfOk, IfErr};
+ghost use Rattle.std.specs.Prelude.{◌≡◌, ◌≢◌, ◌⊎◌, ◌≤◌, ◌+◌, ◌*◌, ℕ, None, length, IfOk, IfErr};
 ghost use Rattle.spki_service.specs.{GuardQuestions.{IsOpened, NoneMarked}, declared.question.Question.{Question}};
 ghost use Rattle.spki_decision.specs.Until.{decision_of};
 ghost use Rattle.spki_guard.specs.TextAnswers.{IsLineOf, RefusesForMemory, written_by};
-ghost use Rattle.spki_guard.specs.HeldQuestions.{IsAnswerHeld, IsGrantFor, GrantsHeld, MayGrant, IsUnreadQuestion};
+ghost use Rattle.spki_service.specs.Cost.{AsksOctets, list_ticks};
+ghost use Rattle.spki_guard.specs.HeldQuestions.{answer_ticks, IsAnswerHeld, IsGrantFor, GrantsHeld, MayGrant, IsUnreadQuestion};
 
 use crate::answers::answer_of_decision;
 use crate::printed::Printed;
 use crate::queries::Query;
 use crate::question_answers::{answer_asked, refused_question};
 use spki_service::{Grant, OwnedQuestion, Question, SharedGuard};
+use spki_tag::Ticks;
 use std::alloc::Global;
 
 /// The answer to a question that was opened.
@@ -23,7 +25,9 @@ pub struct OpenedAnswer {
     pub grant: Option<Grant>,
 }
 
-/// Reads a question for a guard, into a value that owns all that its answers need. No signature is marked.
+/// Reads a question for a guard, into a value that owns all that its answers need. No signature is marked. `ticks` counts operations, in contracts
+/// only, as `OwnedQuestion::open` counts them: at most four for each octet of the sequence's canonical text (`shown`), and two for each octet of the
+/// entries that the index finds (`found`).
 ///
 /// # Errors
 ///
@@ -35,12 +39,14 @@ pub fn open_question(
     alloc: Global,
     guard: &SharedGuard,
     question: &Question,
+    ticks: &mut Ticks,
 ) -> Result<OwnedQuestion, Printed>
     ensures opened { IfOk result (IsOpened guard.now question.now) }
     ensures unmarked { IfOk result (λ o. NoneMarked o.marks.items) }
     ensures refused { IfErr result (λ a. IsUnreadQuestion guard.now question.now a.verdict (written_by a)) }
+    ensures cost { (shown found : ℕ) → AsksOctets guard.now question.now shown found → ticks.new ≤ ticks.old + 4 * shown + 2 * found }
 {
-    match OwnedQuestion::open(alloc, guard, question) {
+    match OwnedQuestion::open(alloc, guard, question, ticks) {
         Ok(opened) => Ok(opened),
         Err(fault) => Err(refused_question(alloc, fault)),
     }
@@ -48,29 +54,39 @@ pub fn open_question(
 
 /// Answers a question that was opened for a guard, if exactly its marked signatures are valid (RFC 2693, section 6). The texts that it was read
 /// from may have changed or be freed. The lines are those that `run` writes for the case of the guard's list and the question's parts. A
-/// decision reads nothing again. An explanation and a reduction read the parts again, from the texts that the question owns.
+/// decision reads nothing again. An explanation and a reduction read the parts again, from the texts that the question owns. `ticks` counts operations,
+/// in contracts only: at most one for each listed signature, and for an explanation or a reduction also four for each unit of the guard's limit of
+/// work, one for each octet of its entries, and two for each entry (`answer_ticks`).
 ///
 /// `refused TooLarge` is an answer of `Explain` and `Reduce` alone: the product of the nodes of two tags to be intersected is over the
 /// guard's limit `nodes`, the work of all entries together over its limit `work`, or the lines together have more octets than its limit
 /// `answer`. If memory ran out, the line is `refused Memory`.
-pub fn answer_opened(alloc: Global, query: Query, opened: &OwnedQuestion) -> OpenedAnswer
+pub fn answer_opened(
+    alloc: Global,
+    query: Query,
+    opened: &OwnedQuestion,
+    ticks: &mut Ticks,
+) -> OpenedAnswer
     ensures answer { (q : Question) → IsOpened opened.now.guard q opened.now
         → IsAnswerHeld query opened.now.guard q opened.now.marks.items result.answer.verdict (written_by result.answer) }
     ensures grant { (q : Question) → IsOpened opened.now.guard q opened.now
         → IsGrantFor query opened.now.guard q opened.now.marks.items result.answer.verdict result.grant }
+    ensures cost { (q : Question) → IsOpened opened.now.guard q opened.now → ticks.new ≤ ticks.old + answer_ticks query opened.now }
 {
     match query {
-        Query::Decide => decide_opened(alloc, opened),
-        Query::Explain => without_grant(answer_again(alloc, query, opened)),
-        Query::Reduce => without_grant(answer_again(alloc, query, opened)),
+        Query::Decide => decide_opened(alloc, opened, ticks),
+        Query::Explain => without_grant(answer_again(alloc, query, opened, ticks)),
+        Query::Reduce => without_grant(answer_again(alloc, query, opened, ticks)),
     }
 }
 
-/// Whether a question that was opened is granted, if exactly the marked signatures are valid. Nothing is allocated.
-pub fn is_granted(opened: &OwnedQuestion) -> bool
-    ensures { (q : Question) → IsOpened opened.now.guard q opened.now → GrantsHeld opened.now.guard q opened.now.marks.items result }
+/// Whether a question that was opened is granted, if exactly the marked signatures are valid. Nothing is allocated. `ticks` counts the listed
+/// signatures whose marks are looked at, in contracts only.
+pub fn is_granted(opened: &OwnedQuestion, ticks: &mut Ticks) -> bool
+    ensures granted { (q : Question) → IsOpened opened.now.guard q opened.now → GrantsHeld opened.now.guard q opened.now.marks.items result }
+    ensures cost { ticks.new ≤ ticks.old + length opened.now.signed.items }
 {
-    opened.decide_by().is_yes()
+    opened.decide_by(ticks).is_yes()
 }
 
 /// Whether a question that was opened is granted if all listed signatures are valid. If it is not, the decision is no, and no
@@ -82,14 +98,15 @@ pub fn is_possible(opened: &OwnedQuestion) -> bool
 }
 
 /// The line of the decision of a question that was opened, or `refused Memory` if memory runs out for the line, and the grant: None
-/// if the decision is no.
-fn decide_opened(alloc: Global, opened: &OwnedQuestion) -> OpenedAnswer
+/// if the decision is no. `ticks` counts the listed signatures whose marks are looked at.
+fn decide_opened(alloc: Global, opened: &OwnedQuestion, ticks: &mut Ticks) -> OpenedAnswer
     ensures answer { (q : Question) → IsOpened opened.now.guard q opened.now
         → IsAnswerHeld Query.Decide opened.now.guard q opened.now.marks.items result.answer.verdict (written_by result.answer) }
     ensures grant { (q : Question) → IsOpened opened.now.guard q opened.now
         → IsGrantFor Query.Decide opened.now.guard q opened.now.marks.items result.answer.verdict result.grant }
+    ensures cost { ticks.new ≤ ticks.old + length opened.now.signed.items }
 {
-    let grant = opened.grant_by();
+    let grant = opened.grant_by(ticks);
     let answer = print_grant(alloc, &grant);
     OpenedAnswer { answer, grant }
 }
@@ -102,14 +119,16 @@ fn print_grant(alloc: Global, grant: &Option<Grant>) -> Printed
 }
 
 /// Explains or reduces a question that was opened: reads its parts again, of which the question owns only the texts, and answers as
-/// `answer_asked` does. If memory runs out, the answer is `refused Memory`.
-fn answer_again(alloc: Global, query: Query, opened: &OwnedQuestion) -> Printed
-    ensures { (q : Question) → IsOpened opened.now.guard q opened.now
+/// `answer_asked` does. If memory runs out, the answer is `refused Memory`. The ticks are those of `answer_opened`.
+fn answer_again(alloc: Global, query: Query, opened: &OwnedQuestion, ticks: &mut Ticks) -> Printed
+    ensures answer { (q : Question) → IsOpened opened.now.guard q opened.now
         → IsAnswerHeld query opened.now.guard q opened.now.marks.items result.verdict (written_by result) }
+    ensures cost { (q : Question) → IsOpened opened.now.guard q opened.now → query ≢ Query.Decide
+        → ticks.new ≤ ticks.old + (length opened.now.signed.items + list_ticks opened.now.guard) }
 {
     match opened.ask(alloc) {
         Ok(read) => {
-            let answer = answer_asked(alloc, query, &read);
+            let answer = answer_asked(alloc, query, &read, ticks);
             drop(read);
             answer
         }

@@ -15,8 +15,6 @@ use crate::work::{Work, intersection_cost, resolution_cost};
 use spki_cert::Policy;
 use spki_tag::Ticks;
 use std::alloc::{AllocError, Global};
-use std::marker::Brand;
-use std::sync::ledger::{Blank, Ledger};
 
 /// Joins the authorization `first` with the steps after it, one after another from the left (RFC 2693, sections 6.3 and
 /// 6.4). Each authorization is joined as by `Five::then`, and each definition as by `Five::resolve`. Without steps the
@@ -108,58 +106,6 @@ pub fn fold_owned<'a>(
     // What was taken stays taken, also after an error: the work of some first steps.
     ensures left { TakesFirstSteps (left_of work.old) (left_of work.new) policy (five (five_tuple first.entry)) (tuples_of steps.now) }
 {
-    // `Brand` and `Blank` are for a count of ticks, which exists only in contracts: see `spki_tag::Ticks`.
-    fold_with_new_count::<Brand>(
-        alloc,
-        first,
-        steps,
-        policy,
-        max_product,
-        work,
-        Blank::new(1),
-    )
-}
-
-/// Does what `fold_owned` does, with its arguments and its errors `TooLarge` and `Memory`: calls `fold_owned_counted` with a new count of ticks
-/// (operations that contracts count). The count exists only in contracts, and is dropped afterwards. `blank` is a new ledger of the toolchain, to
-/// keep the count in; it must be that of `L`. `L` has a name only in a generic function, such as this one: its caller writes `Brand` for it.
-fn fold_with_new_count<'a, L: Ledger>(
-    alloc: Global,
-    first: Five<'a>,
-    steps: &[Step<'a>],
-    policy: Policy,
-    max_product: usize,
-    work: &mut Work,
-    blank: Blank,
-) -> Result<Fold<'a>, ReduceFault>
-    requires max_product { max_product ≤ 1000000 }
-    requires name { blank.name ≡ L.name }
-    requires parts { blank.parts ≡ L.parts }
-    requires some { 0 < blank.parts }
-    ensures fold { IfOk result (λ fold. MatchFold fold
-        (FoldsTo policy (five (five_tuple first.entry)) (tuples_of steps.now))
-        (StopsAt policy (five (five_tuple first.entry)) (tuples_of steps.now))) }
-    ensures alone { steps.now ≡ [] → IsOkAnd result (λ fold. MatchFold fold
-        (λ f. five_tuple f ≡ five_tuple first.entry) (λ step cause. ⊥)) }
-    ensures issuer { IfOk result (λ fold. MatchFold fold
-        (λ f. issuer_of f.issuer ≡ issuer_of first.entry.issuer) (λ step cause. Unit {0})) }
-    // The tag of the result: the intersection of all tags, one after another.
-    ensures value { IfOk result (λ fold. MatchFold fold
-        (HasMet (five (five_tuple first.entry)) (tuples_of steps.now)) (λ step cause. Unit {0})) }
-    // What a stop means for the same tuples in any bracketing.
-    ensures excluded { IfOk result (λ fold. MatchFold fold (λ f. Unit {0})
-        (Excludes policy (five (five_tuple first.entry)) (tuples_of steps.now))) }
-    ensures unsupported { IfOk result (λ fold. MatchFold fold (λ f. Unit {0})
-        (λ step cause. SupportsNothing policy (five (five_tuple first.entry) ∷ tuples_of steps.now))) }
-    // When it is refused: the chain joins up to a step that is too large for the result so far, or its work is over the bound.
-    ensures too_large { IsErrOf result ReduceFault.TooLarge →
-        TooLargeAt max_product policy (five (five_tuple first.entry)) (tuples_of steps.now)
-        ⊎ IsOverworked (left_of work.old) policy (five (five_tuple first.entry)) (tuples_of steps.now) }
-    ensures within_limit { IfOk result (λ fold. ¬ TooLargeAt max_product policy (five (five_tuple first.entry)) (tuples_of steps.now)) }
-    ensures worked { OnOk result ((n : ℕ) × IsWork policy (five (five_tuple first.entry)) (tuples_of steps.now) n
-        × Takes (left_of work.old) (left_of work.new) n) }
-    ensures left { TakesFirstSteps (left_of work.old) (left_of work.new) policy (five (five_tuple first.entry)) (tuples_of steps.now) }
-{
     fold_owned_counted(
         alloc,
         first,
@@ -167,7 +113,7 @@ fn fold_with_new_count<'a, L: Ledger>(
         policy,
         max_product,
         work,
-        &mut Ticks::<L>::new(blank),
+        &mut Ticks::new(),
     )
 }
 
@@ -181,14 +127,14 @@ fn fold_with_new_count<'a, L: Ledger>(
 ///
 /// `TooLarge` if the product of the nodes of two tags that are to be intersected is over `max_product`, or a step costs more than `work` still
 /// has. `Memory` if memory ran out, or if a shared part has too many owners to count. What was taken from `work` before an error stays taken.
-pub fn fold_owned_counted<'a, L: Ledger>(
+pub fn fold_owned_counted<'a>(
     alloc: Global,
     first: Five<'a>,
     steps: &[Step<'a>],
     policy: Policy,
     max_product: usize,
     work: &mut Work,
-    ticks: &mut Ticks<L>,
+    ticks: &mut Ticks,
 ) -> Result<Fold<'a>, ReduceFault>
     requires { max_product ≤ 1000000 }
     ensures fold { IfOk result (λ fold. MatchFold fold
@@ -281,13 +227,13 @@ impl<'a> Five<'a> {
     /// exists only in contracts: at most three ticks are added for each unit of work that the step costs (`cost_with`). If they do
     /// not join, and the cause is not `NoTag`, it costs 0, so there are no ticks.
     #[tactic(auto, using(crate::proofs::ReducedForms::unrefused))]
-    fn joined<L: Ledger>(
+    fn joined(
         self,
         alloc: Global,
         step: &Step<'a>,
         policy: Policy,
         max_product: usize,
-        ticks: &mut Ticks<L>,
+        ticks: &mut Ticks,
     ) -> Result<Joined<Five<'a>>, ReduceFault>
         requires { max_product ≤ 1000000 }
         ensures joined { IfOk result (λ joined. MatchJoined joined

@@ -14,8 +14,6 @@ use crate::tuple::{Five, Four, Issuer};
 use spki_cert::{Key, Names, Policy, Subject, Window};
 use spki_tag::{Tag, Ticks};
 use std::alloc::{AllocError, Global};
-use std::marker::Brand;
-use std::sync::ledger::{Blank, Ledger};
 
 /// The greatest product of the numbers of nodes of two tags that `Five::then` and `fold_chain` intersect. It is also the greatest limit,
 /// `max_product`, that other functions may be passed.
@@ -68,13 +66,13 @@ impl<'a> Five<'a> {
     /// A tick is one of `Tag::meet_counted` (a pair of tags that is looked at, a member that is copied, an octet of a string), or a name of
     /// the next subject. There are at most three for each unit of work that joining `next` costs (`Five::cost_with`), so none if they do
     /// not join and their tags are not the cause.
-    pub(crate) fn into_then<L: Ledger>(
+    pub(crate) fn into_then(
         self,
         alloc: Global,
         next: &Five<'a>,
         policy: Policy,
         max_product: usize,
-        ticks: &mut Ticks<L>,
+        ticks: &mut Ticks,
     ) -> Result<Joined<Five<'a>>, ReduceFault>
         requires { max_product ≤ 1000000 }
         ensures joined { IfOk result (λ joined. MatchJoined joined
@@ -157,29 +155,7 @@ impl<'a> Five<'a> {
             (λ cause. Stops policy (five (five_tuple self.entry)) (four (four_tuple definition.now)) cause)) }
         ensures refused { IfErr result (λ fault. fault ≡ ReduceFault.Memory) }
     {
-        // `Brand` and `Blank` are for a count of ticks, which exists only in contracts: see `spki_tag::Ticks`.
-        self.into_resolve_with_new_count::<Brand>(definition, policy, Blank::new(1))
-    }
-
-    /// Does what `into_resolve` does, with its arguments and its only error `Memory`: calls `into_resolve_counted` with a new count of ticks
-    /// (operations that contracts count). The count exists only in contracts, and is dropped afterwards. `blank` is a new ledger of the toolchain, to
-    /// keep the count in; it must be that of `L`. `L` has a name only in a generic function, such as this one: its caller writes `Brand` for it.
-    fn into_resolve_with_new_count<L: Ledger>(
-        self,
-        definition: &Four<'a>,
-        policy: Policy,
-        blank: Blank,
-    ) -> Result<Joined<Five<'a>>, ReduceFault>
-        requires name { blank.name ≡ L.name }
-        requires parts { blank.parts ≡ L.parts }
-        requires some { 0 < blank.parts }
-        ensures joined { IfOk result (λ joined. MatchJoined joined
-            (λ f. BecomesFive policy (five (five_tuple self.entry)) (four (four_tuple definition.now)) f
-            × (f.tag ≡ self.entry.tag))
-            (λ cause. Stops policy (five (five_tuple self.entry)) (four (four_tuple definition.now)) cause)) }
-        ensures refused { IfErr result (λ fault. fault ≡ ReduceFault.Memory) }
-    {
-        self.into_resolve_counted(definition, policy, &mut Ticks::<L>::new(blank))
+        self.into_resolve_counted(definition, policy, &mut Ticks::new())
     }
 
     /// Resolves the first name of this authorization's subject by a definition, as `into_resolve`, and adds its operations to `ticks`, a count
@@ -187,11 +163,11 @@ impl<'a> Five<'a> {
     /// also if memory then runs out. Otherwise it adds none: comparing the name is not counted. Err is only `Memory`: memory ran out, or the
     /// names of the definition's subject have too many owners to count.
     #[tactic(auto, using(crate::proofs::ReducedForms::resolves))]
-    pub(crate) fn into_resolve_counted<L: Ledger>(
+    pub(crate) fn into_resolve_counted(
         self,
         definition: &Four<'a>,
         policy: Policy,
-        ticks: &mut Ticks<L>,
+        ticks: &mut Ticks,
     ) -> Result<Joined<Five<'a>>, ReduceFault>
         ensures joined { IfOk result (λ joined. MatchJoined joined
             (λ f. BecomesFive policy (five (five_tuple self.entry)) (four (four_tuple definition.now)) f

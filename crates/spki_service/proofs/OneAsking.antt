@@ -5,7 +5,8 @@ use Rattle.sexpr_text.specs.{AdvancedForm.{IsText, IsTextWithin}, CanonicalTexts
 use Rattle.sexpr_text.proofs.{OneValue.{one_value}, OneRefusal.{one_of_any}}
 use Rattle.spki_tag.proofs.RequestReading.{request_only}
 use Rattle.spki_cert.{specs.declared.fault.CertFaultKind.{CertFaultKind}, proofs.OneReading.{key-one, date-one, sequence-one}}
-use Rattle.spki_case.specs.Case.{Case}
+use Rattle.spki_case.specs.Case.{Case, certificates, keys_of}
+use Rattle.spki_decision.specs.CertificateTests.{asked, asked_in}
 use Rattle.spki_service.specs.Questions.{Reads, IsNoDateFor, IsWanted, RefusesWanted, IsAskedAt, IsAskedCase, IsNoSequenceFor, IsNoKeyFor, IsNoRequestFor, ReadsSequence, ReadsKey, ReadsRequest, ReadsBefore, LacksFormOfMoment, IsAskedAtNone, IsNotAsked, certificates_in, HasFewStrings, HasManyCertificates, HasManyStrings, IsTooMany, IsRefused}
 use Rattle.spki_service.specs.declared.question.{Question.{Question}, Part.{Part}, AskFault.{AskFault}}
 use Rattle.spki_service.proofs.DateLaws.{no_date, one_date}
@@ -193,6 +194,12 @@ pub items_one : (q : Question) (c d : Case) → IsAskedCase q c → IsAskedCase 
 items_one q c d a b =
     let sequences = both (of_text q.sequence.now) a.sequence b.sequence in
     sequence-one sequences.value c.items d.items sequences.one sequences.other
+
+-- two readings of a question under one policy ask a verifier about the same signatures
+pub asked_one : (q : Question) (c d : Case) → IsAskedCase q c → IsAskedCase q d → c.policy ≡ d.policy → asked c ≡ asked d
+asked_one q c d one other policy =
+    let same = items_one q c d one other in
+    λ i. asked_in (policy i) (keys_of (same i)) (certificates (same i))
 
 pub case-one : (q : Question) (c d : Case) → IsAskedCase q c → IsAskedCase q d → c.policy ≡ d.policy
     → c.max_nodes ≡ d.max_nodes → c.max_work ≡ d.max_work → c.uncounted ≡ d.uncounted → c ≡ d

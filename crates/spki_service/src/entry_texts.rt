@@ -11,7 +11,6 @@ use sexpr_core::syntax::{Members, Node};
 use spki_cert::{Entry, entry_of};
 use spki_tag::Ticks;
 use std::alloc::{AllocError, Global};
-use std::sync::ledger::Ledger;
 
 /// Returns the canonical texts of the entries of an access list, in order. The list's version, if it has one before them, is left out.
 /// `list` must be an access list, so it has the head `acl` and the `else` is not reached. `count` must be the number of its entries. Err if
@@ -73,10 +72,10 @@ pub(crate) fn entry_in<'a>(alloc: Global, text: &'a [u8]) -> Result<Entry<'a>, A
 
 /// Reads an entry from its canonical text, as `entry_in`, and adds to `ticks`, a count that exists only in contracts: one for the entry, and one
 /// for each octet of its text. Err if memory ran out.
-pub(crate) fn entry_counted<'a, L: Ledger>(
+pub(crate) fn entry_counted<'a>(
     alloc: Global,
     text: &'a [u8],
-    ticks: &mut Ticks<L>,
+    ticks: &mut Ticks,
 ) -> Result<Entry<'a>, AllocError>
     ensures answer { (e : Entry) → IsEntryText text.entry.now e → IfOk result (λ found. found ≡ e) }
     ensures cost { ticks.new ≡ ticks.old + 1 + length text.entry.now }

@@ -1,4 +1,4 @@
-//! Explanations and reductions whose work is counted, in contracts only: see `spki_tag::Ticks`. Nothing is counted when the program runs.
+//! Explanations and reductions by marks. Their work is counted, in contracts only: see `spki_tag::Ticks`. Nothing is counted when the program runs.
 //! A value with many parts is freed by a call of `drop`, so that the proof does not go through its parts at each exit.
 
 ghost use Rattle.std.specs.Prelude.{◌≡◌, ◌≤◌, ◌<◌, ◌⊎◌, ◌+◌, ◌*◌, List, length, IfOk, OnOk, IsErrOf};
@@ -22,10 +22,10 @@ use spki_decision::{
 use spki_reduce::Step;
 use spki_tag::Ticks;
 use std::alloc::Global;
-use std::sync::ledger::{Blank, Ledger};
 
 impl<'a> PreparedQuestion<'a> {
-    /// Explains the question, if exactly the marked signatures are valid, as `explain_by`. `ticks` counts operations, in contracts only. A tick
+    /// Explains the question, as `explain`, if exactly the marked signatures are valid. A certificate whose listed signature has no mark
+    /// fails the last test of `Stop`. `ticks` counts operations, in contracts only. A tick
     /// is a signature, an entry or a step of a chain that is looked at, an octet of an entry that is read, or what an intersection compares or
     /// copies. There are at most four for each unit of the guard's limit of work, one for each octet of the access list's entries, two for each
     /// entry, and one for each listed signature, also if the answer is an error. This bound requires that the case's `uncounted`, the size up to
@@ -36,19 +36,15 @@ impl<'a> PreparedQuestion<'a> {
     ///
     /// `TooLarge` if the product of the nodes of two tags to be intersected is over the guard's limit `nodes`, or the work of all
     /// entries together over its limit `work`. `Memory` if memory ran out, or if a tag or a list of names has too many owners to count.
-    pub fn explain_by_counted<L: Ledger>(
-        &self,
-        alloc: Global,
-        ticks: &mut Ticks<L>,
-    ) -> Result<Explanation, GuardFault>
+    pub fn explain_by(&self, alloc: Global, ticks: &mut Ticks) -> Result<Explanation, GuardFault>
         ensures answer { ExplainsMarked self.now result }
         ensures cost { self.now.case.uncounted ≡ 0 → ticks.new ≤ ticks.old + length (asked self.now.case) + fold_ticks self.now }
         ensures each { (tuples : List Tuple) → AreShown self.now.case.policy every self.now.case.items tuples
             → AllMarked (asked self.now.case) self.now.marks
             → IfOk result (λ _. ticks.old + length (asked self.now.case) + all_octets self.now.texts + length self.now.texts ≤ ticks.new) }
     {
-        match self.unmarked_counted(ticks) {
-            None => self.explained_counted(alloc, ticks),
+        match self.unmarked(ticks) {
+            None => self.explained(alloc, ticks),
             Some(one) => Ok(Explanation::Evidence {
                 item: one.item,
                 stop: Stop::NotAccepted,
@@ -56,34 +52,15 @@ impl<'a> PreparedQuestion<'a> {
         }
     }
 
-    /// Does the work of `explain_by`: calls `explain_by_counted` with a new count of ticks (operations that contracts count). The count exists only
-    /// in contracts, and is dropped afterwards. `blank` is a new ledger of the toolchain, to keep the count in; it must be that of `L`. `L` has a
-    /// name only in a generic function, such as this one: its caller writes `Brand` for it. Err is `TooLarge` or `Memory`.
-    pub(crate) fn explain_by_with_new_count<L: Ledger>(
-        &self,
-        alloc: Global,
-        blank: Blank,
-    ) -> Result<Explanation, GuardFault>
-        requires name { blank.name ≡ L.name }
-        requires parts { blank.parts ≡ L.parts }
-        requires some { 0 < blank.parts }
-        ensures { ExplainsMarked self.now result }
-    {
-        self.explain_by_counted(alloc, &mut Ticks::<L>::new(blank))
-    }
-
-    /// Reduces the question, if exactly the marked signatures are valid, as `reduce_by`. `ticks` counts operations, in contracts only: at most
-    /// as many as for `explain_by_counted`.
+    /// Reduces the question, as `reduce`, if exactly the marked signatures are valid. A certificate whose listed signature has no mark
+    /// fails the last test of `Stop`. `ticks` counts operations, in contracts only: at most
+    /// as many as for `explain_by`.
     ///
     /// # Errors
     ///
     /// `TooLarge` if the product of the nodes of two tags to be intersected is over the guard's limit `nodes`, or the work of all
     /// entries together over its limit `work`. `Memory` if memory ran out, or if a tag or a list of names has too many owners to count.
-    pub fn reduce_by_counted<L: Ledger>(
-        &self,
-        alloc: Global,
-        ticks: &mut Ticks<L>,
-    ) -> Result<Reduction<'a>, GuardFault>
+    pub fn reduce_by(&self, alloc: Global, ticks: &mut Ticks) -> Result<Reduction<'a>, GuardFault>
         ensures reduced { ReducesMarked self.now result }
         ensures end { IfOk result EndAtDates }
         ensures cost { self.now.case.uncounted ≡ 0 → ticks.new ≤ ticks.old + length (asked self.now.case) + fold_ticks self.now }
@@ -91,8 +68,8 @@ impl<'a> PreparedQuestion<'a> {
             → AllMarked (asked self.now.case) self.now.marks
             → IfOk result (λ _. ticks.old + length (asked self.now.case) + all_octets self.now.texts + length self.now.texts ≤ ticks.new) }
     {
-        match self.unmarked_counted(ticks) {
-            None => self.reduced_counted(alloc, ticks),
+        match self.unmarked(ticks) {
+            None => self.reduced(alloc, ticks),
             Some(one) => Ok(Reduction::Evidence {
                 item: one.item,
                 stop: Stop::NotAccepted,
@@ -100,37 +77,21 @@ impl<'a> PreparedQuestion<'a> {
         }
     }
 
-    /// Does the work of `reduce_by`: calls `reduce_by_counted` with a new count of ticks (operations that contracts count). The count exists only in
-    /// contracts, and is dropped afterwards. `blank` is a new ledger of the toolchain, to keep the count in; it must be that of `L`. `L` has a name
-    /// only in a generic function, such as this one: its caller writes `Brand` for it. Err is `TooLarge` or `Memory`.
-    pub(crate) fn reduce_by_with_new_count<L: Ledger>(
-        &self,
-        alloc: Global,
-        blank: Blank,
-    ) -> Result<Reduction<'a>, GuardFault>
-        requires name { blank.name ≡ L.name }
-        requires parts { blank.parts ≡ L.parts }
-        requires some { 0 < blank.parts }
-        ensures reduced { ReducesMarked self.now result }
-        ensures end { IfOk result EndAtDates }
-    {
-        self.reduce_by_counted(alloc, &mut Ticks::<L>::new(blank))
-    }
-
-    /// Reduces the question, if exactly the marked signatures are valid, and puts what each entry becomes into `sink`, as `reduce_into`. `ticks`
-    /// counts operations, in contracts only: at most as many as for `explain_by_counted`, without those of the sink. If a certificate fails a
-    /// test, returns the first that does, and puts nothing. Returns None if all pass. A certificate whose listed signature has no mark fails.
+    /// Reduces the question as `reduce_by` does, and puts what each entry becomes into `sink` as soon as it is known. So only one entry, and
+    /// what it becomes, takes memory at a time. If a certificate fails a test, returns the first that does, and puts nothing. Returns None if
+    /// all certificates pass. A certificate whose listed signature has no mark fails the last test. `ticks` counts operations, in contracts
+    /// only: at most as many as for `explain_by`, without those of the sink.
     ///
     /// # Errors
     ///
     /// `TooLarge` if the product of the nodes of two tags to be intersected is over the guard's limit `nodes`, or the work of all
     /// entries together over its limit `work`. `Memory` if memory ran out, here or in the sink, or if a tag or a list of names has too many owners
     /// to count. After an error, drop what `sink` has taken: nothing is promised of it.
-    pub fn reduce_into_counted<L: Ledger, S: FoldSink<'a>>(
+    pub fn reduce_into<S: FoldSink<'a>>(
         &self,
         alloc: Global,
         sink: &mut S,
-        ticks: &mut Ticks<L>,
+        ticks: &mut Ticks,
     ) -> Result<Option<Failure>, GuardFault>
         ensures folds { IfOk result (λ failure. (folds : List EntryFold) × S.takes sink.old folds sink.new
             × AreReducedMarked self.now failure folds) }
@@ -141,8 +102,8 @@ impl<'a> PreparedQuestion<'a> {
             → AllMarked (asked self.now.case) self.now.marks
             → IfOk result (λ _. ticks.old + length (asked self.now.case) + all_octets self.now.texts + length self.now.texts ≤ ticks.new) }
     {
-        match self.unmarked_counted(ticks) {
-            None => self.put_folds_counted(alloc, sink, ticks),
+        match self.unmarked(ticks) {
+            None => self.put_folds(alloc, sink, ticks),
             Some(one) => Ok(Some(Failure {
                 item: one.item,
                 stop: Stop::NotAccepted,
@@ -151,11 +112,11 @@ impl<'a> PreparedQuestion<'a> {
     }
 
     /// The explanation if all listed signatures are valid; the marks are not looked at. Its ticks (operations that contracts count) are those
-    /// of `explain_by_counted` without the signatures. Err is `TooLarge` or `Memory`, as there. `prove_well_formed` is only for the prover.
-    fn explained_counted<L: Ledger>(
+    /// of `explain_by` without the signatures. Err is `TooLarge` or `Memory`, as there. `prove_well_formed` is only for the prover.
+    pub(crate) fn explained(
         &self,
         alloc: Global,
-        ticks: &mut Ticks<L>,
+        ticks: &mut Ticks,
     ) -> Result<Explanation, GuardFault>
         ensures answer { Answers (λ c answer. IsExplained c every answer) self.now result }
         ensures cost { self.now.case.uncounted ≡ 0 → ticks.new ≤ ticks.old + fold_ticks self.now }
@@ -168,35 +129,18 @@ impl<'a> PreparedQuestion<'a> {
             case: &self.case,
             reasons: Vec::with_capacity(alloc, guard.texts.len())?,
         };
-        match self.put_folds_counted(alloc, &mut sink, ticks)? {
+        match self.put_folds(alloc, &mut sink, ticks)? {
             Some(Failure { item, stop }) => Ok(Explanation::Evidence { item, stop }),
             None => Ok(Explanation::Entries(sink.reasons)),
         }
     }
 
-    /// The explanation if all listed signatures are valid, for `explain`: calls `explained_counted` with a new count of ticks (operations that
-    /// contracts count). The count exists only in contracts, and is dropped afterwards. `blank` is a new ledger of the toolchain, to keep the count
-    /// in; it must be that of `L`. `L` has a name only in a generic function, such as this one: its caller writes `Brand` for it. Err is `TooLarge`
-    /// or `Memory`.
-    pub(crate) fn explained_with_new_count<L: Ledger>(
-        &self,
-        alloc: Global,
-        blank: Blank,
-    ) -> Result<Explanation, GuardFault>
-        requires name { blank.name ≡ L.name }
-        requires parts { blank.parts ≡ L.parts }
-        requires some { 0 < blank.parts }
-        ensures { Answers (λ c answer. IsExplained c every answer) self.now result }
-    {
-        self.explained_counted(alloc, &mut Ticks::<L>::new(blank))
-    }
-
     /// The reduction if all listed signatures are valid; the marks are not looked at. Its ticks (operations that contracts count) are those
-    /// of `reduce_by_counted` without the signatures. Err is `TooLarge` or `Memory`, as there.
-    fn reduced_counted<L: Ledger>(
+    /// of `reduce_by` without the signatures. Err is `TooLarge` or `Memory`, as there.
+    pub(crate) fn reduced(
         &self,
         alloc: Global,
-        ticks: &mut Ticks<L>,
+        ticks: &mut Ticks,
     ) -> Result<Reduction<'a>, GuardFault>
         ensures reduced { Answers (λ c answer. IsReduced c every answer) self.now result }
         ensures end { IfOk result EndAtDates }
@@ -206,37 +150,20 @@ impl<'a> PreparedQuestion<'a> {
     {
         let guard = self.guard;
         let mut folds = Vec::with_capacity(alloc, guard.texts.len())?;
-        match self.put_folds_counted(alloc, &mut folds, ticks)? {
+        match self.put_folds(alloc, &mut folds, ticks)? {
             Some(Failure { item, stop }) => Ok(Reduction::Evidence { item, stop }),
             None => Ok(Reduction::Entries(folds)),
         }
     }
 
-    /// The reduction if all listed signatures are valid, for `reduce`: calls `reduced_counted` with a new count of ticks (operations that contracts
-    /// count). The count exists only in contracts, and is dropped afterwards. `blank` is a new ledger of the toolchain, to keep the count in; it must
-    /// be that of `L`. `L` has a name only in a generic function, such as this one: its caller writes `Brand` for it. Err is `TooLarge` or `Memory`.
-    pub(crate) fn reduced_with_new_count<L: Ledger>(
-        &self,
-        alloc: Global,
-        blank: Blank,
-    ) -> Result<Reduction<'a>, GuardFault>
-        requires name { blank.name ≡ L.name }
-        requires parts { blank.parts ≡ L.parts }
-        requires some { 0 < blank.parts }
-        ensures reduced { Answers (λ c answer. IsReduced c every answer) self.now result }
-        ensures end { IfOk result EndAtDates }
-    {
-        self.reduced_counted(alloc, &mut Ticks::<L>::new(blank))
-    }
-
-    /// Puts what each entry becomes into `sink`, as `put_folds`, if all listed signatures are valid. If a certificate fails another test,
+    /// Puts what each entry becomes into `sink`, on the assumption that all listed signatures are valid: `reduce_into` tests the marks before. If a certificate fails another test,
     /// returns the first that does, and puts nothing. Returns None if all pass. Its ticks (operations that contracts count) are those of
-    /// `reduce_into_counted` without the signatures. Err is `TooLarge` or `Memory`, as there.
-    fn put_folds_counted<L: Ledger, S: FoldSink<'a>>(
+    /// `reduce_into` without the signatures. Err is `TooLarge` or `Memory`, as there.
+    fn put_folds<S: FoldSink<'a>>(
         &self,
         alloc: Global,
         sink: &mut S,
-        ticks: &mut Ticks<L>,
+        ticks: &mut Ticks,
     ) -> Result<Option<Failure>, GuardFault>
         ensures folds { IfOk result (λ failure. (folds : List EntryFold) × S.takes sink.old folds sink.new
             × AreReduced self.now every failure folds) }
@@ -252,29 +179,31 @@ impl<'a> PreparedQuestion<'a> {
             })),
             Unverified::Passes(steps) => {
                 let guard = self.guard;
-                fold_texts_counted(alloc, &guard.texts, &self.case, steps, sink, ticks)?;
+                fold_texts(alloc, &guard.texts, &self.case, steps, sink, ticks)?;
                 Ok(None)
             }
         }
     }
 }
 
-/// Puts into `sink` what each entry becomes with the certificates of the case, as `fold_texts`, and counts operations in `ticks`, in contracts
-/// only. `texts` are the entries' canonical texts, and `steps` the certificates' tuples. An entry is a tick, and so is each octet of its text,
-/// once. `entry_fold_counted`, which joins the entry with the certificates, adds more. What the sink does is not counted.
+/// Puts into `sink` what each entry of an access list becomes with the certificates of the case. `texts` are the canonical texts of the entries,
+/// and `steps` the tuples of all certificates, in order: one for each. An entry is read just before it is joined with them, and nothing of it is
+/// kept. The case's own access list, which is empty in a question, is not examined. All entries share one budget: the work that may still be done.
+/// `ticks` counts operations, in contracts only. An entry is a tick, and so is each octet of its text, once. `entry_fold_counted`, which joins the
+/// entry with the certificates, adds more. What the sink does is not counted.
 ///
 /// # Errors
 ///
 /// `TooLarge` if the product of the nodes of two tags to be intersected is over the case's limit of nodes, or the work of all entries together
 /// over its limit of work. `Memory` if memory ran out, here or in the sink, or if a tag or a list of names has too many owners to count. After an
 /// error, drop what `sink` has taken.
-fn fold_texts_counted<'a, L: Ledger, S: FoldSink<'a>>(
+fn fold_texts<'a, S: FoldSink<'a>>(
     alloc: Global,
     texts: &'a TextList,
     case: &Case<'a>,
     steps: &[Step<'a>],
     sink: &mut S,
-    ticks: &mut Ticks<L>,
+    ticks: &mut Ticks,
 ) -> Result<(), GuardFault>
     requires { length steps.now ≡ length (certificates case.now.sequence.items) }
     ensures folds { OnOk result ((folds : List EntryFold) × S.takes sink.old folds sink.new

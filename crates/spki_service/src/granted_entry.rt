@@ -15,7 +15,6 @@ use spki_decision::{ChainRequirement, Grant};
 use spki_reduce::Step;
 use spki_tag::Ticks;
 use std::alloc::{AllocError, Global};
-use std::sync::ledger::Ledger;
 
 /// Returns the first of the entries with these numbers, from 1, that grants what the case asks, together with the certificates whose tuples
 /// are `steps`: its number, and until when it grants. None if none of them does. `texts` are the canonical texts of all entries, and must
@@ -27,13 +26,13 @@ use std::sync::ledger::Ledger;
 /// # Errors
 ///
 /// `AllocError` if memory ran out.
-pub(crate) fn first_granted<'a, L: Ledger>(
+pub(crate) fn first_granted<'a>(
     alloc: Global,
     texts: &'a TextList,
     numbers: &[usize],
     case: &Case<'a>,
     steps: &[Step<'a>],
-    ticks: &mut Ticks<L>,
+    ticks: &mut Ticks,
 ) -> Result<Option<Grant>, AllocError>
     requires { AreNumbers (length texts.now) numbers.now }
     ensures answer { (es picked : List Entry) → AreEntries texts.entry.now es → ArePicked es numbers.now picked

@@ -23,7 +23,6 @@ mod parts;
 mod prepared_question;
 mod question;
 mod shared;
-mod text_folds;
 mod text_list;
 mod texts;
 mod words;

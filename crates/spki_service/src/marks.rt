@@ -5,8 +5,6 @@ ghost use Rattle.spki_service.specs.GuardQuestions.{IsMarked, NoneMarked, IsMark
 
 use spki_tag::Ticks;
 use std::alloc::{AllocError, Global};
-use std::marker::Brand;
-use std::sync::ledger::{Blank, Ledger};
 
 /// Returns `count` bools for marks, one for each listed signature, without any mark. Err if memory ran out.
 pub(crate) fn no_marks(alloc: Global, count: usize) -> Result<Vec<bool>, AllocError>
@@ -29,38 +27,9 @@ pub(crate) fn mark_at(marks: &mut [bool], index: usize) -> bool
     true
 }
 
-/// The first index, from 0 and below `count`, without a mark. None if each of these indices has one. `count` is the number of listed
-/// signatures.
-pub(crate) fn first_unmarked(count: usize, marks: &[bool]) -> Option<usize>
-    ensures { IsFirstUnmarked count marks.now result }
-{
-    // `Brand` and `Blank` are for a count of operations (ticks), which only contracts see and which costs no time: see `Ticks`.
-    first_unmarked_with_new_count::<Brand>(count, marks, Blank::new(1))
-}
-
-/// Does the work of `first_unmarked`, for `count` indices: calls `first_unmarked_counted` with a new count of ticks (operations that contracts
-/// count). The new count exists only in contracts, and is dropped afterwards. `blank` is a new ledger of the toolchain, to keep it in, and must be
-/// that of `L`. `L` has a name only in a generic function, such as this one: its caller writes `Brand` for it.
-fn first_unmarked_with_new_count<L: Ledger>(
-    count: usize,
-    marks: &[bool],
-    blank: Blank,
-) -> Option<usize>
-    requires name { blank.name ≡ L.name }
-    requires parts { blank.parts ≡ L.parts }
-    requires some { 0 < blank.parts }
-    ensures { IsFirstUnmarked count marks.now result }
-{
-    first_unmarked_counted(count, marks, &mut Ticks::<L>::new(blank))
-}
-
-/// The first index, from 0 and below `count`, without a mark, as `first_unmarked`. None if each of these indices has one. Each index that is
-/// looked at adds 1 to `ticks`, a count that exists only in contracts.
-pub(crate) fn first_unmarked_counted<L: Ledger>(
-    count: usize,
-    marks: &[bool],
-    ticks: &mut Ticks<L>,
-) -> Option<usize>
+/// The first index, from 0 and below `count`, without a mark. None if each of these indices has one. `count` is the number of listed signatures.
+/// Each index that is looked at adds 1 to `ticks`, a count that exists only in contracts.
+pub(crate) fn first_unmarked(count: usize, marks: &[bool], ticks: &mut Ticks) -> Option<usize>
     ensures answer { IsFirstUnmarked count marks.now result }
     ensures cost { ticks.new ≤ ticks.old + count }
     ensures each { IfNone result (ticks.old + count ≤ ticks.new) }

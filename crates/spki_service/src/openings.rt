@@ -1,10 +1,10 @@
 //! Opening of questions, and the answers of those that were opened. A value with many parts is freed by a call of `drop`, so that the proof
 //! does not go through its parts at each exit.
 
-ghost use Rattle.std.specs.Prelude.{◌≡◌, ◌≢◌, ◌↔◌, ◌<◌, List, length, false, IsTrue, IfOk, IfErr, IsErrOf};
+ghost use Rattle.std.specs.Prelude.{◌≡◌, ◌≢◌, ◌↔◌, ◌<◌, ◌≤◌, ◌+◌, ◌*◌, ℕ, List, length, false, IsTrue, IfOk, IfErr, IsErrOf};
 ghost use Rattle.spki_decision.specs.{Granted.{IsYes}, CertificateTests.{asked, every}, Until.{decision_of}};
 ghost use Rattle.spki_service.specs.GuardQuestions.{Grants, DecidesMarked, GrantsMarked, HasMark, NoneMarked, PreparedModel, IsReadFrom, IsConditionalGrant, IsOpened, IsTextsOf};
-ghost use Rattle.spki_service.specs.{Questions.{IsRefused, asked_octets}, declared.question.Question.{Question}};
+ghost use Rattle.spki_service.specs.{Questions.{IsRefused, asked_octets}, Cost.{HasOctets, AsksOctets}, declared.question.Question.{Question}};
 
 use crate::guard::Guard;
 use crate::marks::{first_unmarked, mark_at, no_marks};
@@ -15,6 +15,7 @@ use crate::question::{AskFault, Question};
 use crate::shared::SharedGuard;
 use crate::texts::Texts;
 use spki_decision::{Decision, Grant};
+use spki_tag::Ticks;
 use std::alloc::{AllocError, Global};
 
 /// What an opened question keeps of its case, so that `OwnedQuestion::decide_by` need not read the texts again.
@@ -28,7 +29,8 @@ struct ConditionalGrant {
 
 impl OwnedQuestion {
     /// Reads a question for a guard, as `Guard::ask`. The result owns all that it needs, so the question's texts may
-    /// change. No signature is marked.
+    /// change. No signature is marked. `ticks` counts operations, in contracts only, as `PreparedQuestion::decide_by` counts them: at most four for
+    /// each octet of the sequence's canonical text (`shown`), and two for each octet of the entries that the index finds (`found`).
     ///
     /// # Errors
     ///
@@ -40,18 +42,21 @@ impl OwnedQuestion {
         alloc: Global,
         guard: &SharedGuard,
         question: &Question,
+        ticks: &mut Ticks,
     ) -> Result<OwnedQuestion, AskFault>
         ensures opened { IfOk result (IsOpened guard.now question.now) }
         ensures unmarked { IfOk result (λ o. NoneMarked o.marks.items) }
         ensures too_long { IsErrOf result AskFault.TooLong ↔ (guard.now.octets < asked_octets question.now) }
         ensures refused { IfErr result (λ fault. fault ≢ AskFault.Memory → fault ≢ AskFault.TooLong
             → IsRefused guard.now.certificates guard.now.words question.now fault) }
+        ensures cost { (shown found : ℕ) → AsksOctets guard.now question.now shown found → ticks.new ≤ ticks.old + 4 * shown + 2 * found }
     {
         let texts = guard.guard().texts(alloc, question)?;
         let ConditionalGrant { signed, if_valid } = conditional_grant(
             alloc,
             guard.guard(),
             &texts,
+            ticks,
         )?;
         let marks = no_marks(alloc, signed.as_slice().len())?;
         let texts = texts.into_owned(alloc)?;
@@ -87,26 +92,29 @@ impl OwnedQuestion {
     }
 
     /// What is granted if exactly the marked signatures are valid, as by `PreparedQuestion::grant_by`: what `open` has found to be granted if all
-    /// are valid, or None if a listed signature has no mark. Nothing is read again, and nothing is allocated.
-    pub fn grant_by(&self) -> Option<Grant>
-        ensures { IsConditionalGrant self.now.guard self.now.texts self.now.signed.items self.now.if_valid
+    /// are valid, or None if a listed signature has no mark. Nothing is read again, and nothing is allocated. `ticks` counts the signatures whose
+    /// marks are looked at, in contracts only.
+    pub fn grant_by(&self, ticks: &mut Ticks) -> Option<Grant>
+        ensures answer { IsConditionalGrant self.now.guard self.now.texts self.now.signed.items self.now.if_valid
             → (a : PreparedModel) × IsReadFrom self.now.guard self.now.texts a × (self.now.signed.items ≡ asked a.case)
             × (a.marks ≡ self.now.marks.items) × GrantsMarked a result }
+        ensures cost { ticks.new ≤ ticks.old + length self.now.signed.items }
     {
-        match first_unmarked(self.signed().len(), &self.marks) {
+        match first_unmarked(self.signed().len(), &self.marks, ticks) {
             None => self.if_valid,
             Some(_) => None,
         }
     }
 
     /// Decides the question if exactly the marked signatures are valid, as `PreparedQuestion::decide_by` does. Nothing is read again, and nothing
-    /// is allocated.
-    pub fn decide_by(&self) -> Decision
-        ensures { IsConditionalGrant self.now.guard self.now.texts self.now.signed.items self.now.if_valid
+    /// is allocated. `ticks` counts as in `grant_by`.
+    pub fn decide_by(&self, ticks: &mut Ticks) -> Decision
+        ensures answer { IsConditionalGrant self.now.guard self.now.texts self.now.signed.items self.now.if_valid
             → (a : PreparedModel) × IsReadFrom self.now.guard self.now.texts a × (self.now.signed.items ≡ asked a.case)
             × (a.marks ≡ self.now.marks.items) × DecidesMarked a result }
+        ensures cost { ticks.new ≤ ticks.old + length self.now.signed.items }
     {
-        Grant::decision(self.grant_by())
+        Grant::decision(self.grant_by(ticks))
     }
 
     /// Whether the question is granted if all listed signatures are valid, as `PreparedQuestion::is_possible` says it. True is not yet a yes.
@@ -138,12 +146,13 @@ impl OwnedQuestion {
 }
 
 /// Reads a question from its texts. Returns copies of the signatures that a verifier is asked about, and what is granted if all of them are
-/// valid. Err is that of `Guard::ask`: `TooLong`, the fault of the first part that cannot be read, `TooManyCertificates`, `TooManyWords`, or
+/// valid. The ticks are those of `OwnedQuestion::open`. Err is that of `Guard::ask`: `TooLong`, the fault of the first part that cannot be read, `TooManyCertificates`, `TooManyWords`, or
 /// `Memory`.
 fn conditional_grant(
     alloc: Global,
     guard: &Guard,
     texts: &Texts,
+    ticks: &mut Ticks,
 ) -> Result<ConditionalGrant, AskFault>
     ensures kept { IfOk result (λ kept. IsConditionalGrant guard.now texts.now kept.signed.items kept.if_valid) }
     ensures too_long { (q : Question) → IsTextsOf q texts.now
@@ -151,22 +160,27 @@ fn conditional_grant(
     ensures refused { (q : Question) → IsTextsOf q texts.now
         → IfErr result (λ fault. fault ≢ AskFault.Memory → fault ≢ AskFault.TooLong
         → IsRefused guard.now.certificates guard.now.words q fault) }
+    ensures cost { (shown found : ℕ) → ((a : PreparedModel) → IsReadFrom guard.now texts.now a → HasOctets a shown found)
+        → ticks.new ≤ ticks.old + 4 * shown + 2 * found }
 {
     let read = guard.ask(alloc, texts)?;
-    let kept = conditional_grant_from(alloc, &read);
+    let kept = conditional_grant_from(alloc, &read, ticks);
     drop(read);
     Ok(kept?)
 }
 
 /// Returns copies of the signatures that a verifier is asked about in a question that was read, and what is granted if all of them are valid.
-/// It is a function of its own so that `conditional_grant` drops the question in one place. Err if memory ran out.
+/// The ticks are those of `OwnedQuestion::open`. It is a function of its own so that `conditional_grant` drops the question in one place. Err if
+/// memory ran out.
 fn conditional_grant_from(
     alloc: Global,
     read: &PreparedQuestion,
+    ticks: &mut Ticks,
 ) -> Result<ConditionalGrant, AllocError>
-    ensures { IfOk result (λ kept. (kept.signed.items ≡ asked read.now.case) × Grants every read.now kept.if_valid) }
+    ensures kept { IfOk result (λ kept. (kept.signed.items ≡ asked read.now.case) × Grants every read.now kept.if_valid) }
+    ensures cost { (shown found : ℕ) → HasOctets read.now shown found → ticks.new ≤ ticks.old + 4 * shown + 2 * found }
 {
-    let if_valid = read.granted(alloc)?;
+    let if_valid = read.granted(alloc, ticks)?;
     let signed = owned_signed(alloc, read.signed())?;
     Ok(ConditionalGrant { signed, if_valid })
 }

@@ -1,13 +1,12 @@
 //! Questions that were read for a guard.
 
-ghost use Rattle.std.specs.Prelude.{◌≡◌, ◌↔◌, ◌<◌, length, false, IsTrue, MatchOption};
-ghost use Rattle.spki_decision.specs.CertificateTests.{asked, signed_of};
-ghost use Rattle.spki_service.specs.GuardQuestions.{PreparedModel, IsMarkedToo, AllMarked, IsUnmarked};
+ghost use Rattle.std.specs.Prelude.{◌≡◌, ◌↔◌, ◌<◌, length, false, IsTrue};
+ghost use Rattle.spki_service.specs.GuardQuestions.{PreparedModel, IsMarkedToo};
 
 use crate::guard::Guard;
-use crate::marks::{first_unmarked, mark_at};
+use crate::marks::mark_at;
 use spki_case::Case;
-use spki_decision::{ExaminedSequence, Signed};
+use spki_decision::ExaminedSequence;
 use std::marker::Model;
 
 /// A question that was read for a guard: its parts, what a verifier is asked, and marks that say which of the listed signatures are
@@ -43,17 +42,6 @@ impl<'a> PreparedQuestion<'a> {
         ensures same { result ≡ false → self.new ≡ self.old }
     {
         mark_at(&mut self.marks, index)
-    }
-
-    /// The first listed signature without a mark, which would say that it is valid. None if each has one. This is for `reduce_into`, which has
-    /// no count of ticks (operations that contracts count); `unmarked_counted` is the same with a count.
-    pub(crate) fn unmarked(&self) -> Option<&Signed<'a>>
-        ensures { MatchOption result (AllMarked (asked self.now.case) self.now.marks)
-            (λ one. IsUnmarked (asked self.now.case) self.now.marks (signed_of one.now)) }
-    {
-        let signed: &Vec<Signed<'a>> = &self.examined.signed;
-        let index = first_unmarked(signed.len(), &self.marks)?;
-        signed.get(index)
     }
 }
 

@@ -20,8 +20,6 @@ use crate::shared_tags::tags_in;
 use crate::tag::{Node, Tag};
 use crate::ticks::Ticks;
 use std::alloc::{AllocError, Global};
-use std::marker::Brand;
-use std::sync::ledger::{Blank, Ledger};
 
 /// The greatest product of the numbers of nodes of two tags that are intersected.
 const MAX_NODES: usize = 1_000_000;
@@ -29,12 +27,7 @@ const MAX_NODES: usize = 1_000_000;
 /// Returns the intersection of two tags of any forms. The product of their numbers of nodes must be at most 1,000,000. Err if memory ran
 /// out, or if a shared part has too many owners to count.
 #[cycle(meet)]
-fn meet_tags<L: Ledger>(
-    alloc: Global,
-    one: &Tag,
-    other: &Tag,
-    ticks: &mut Ticks<L>,
-) -> Result<Tag, AllocError>
+fn meet_tags(alloc: Global, one: &Tag, other: &Tag, ticks: &mut Ticks) -> Result<Tag, AllocError>
     requires { nodes one.now * nodes other.now ≤ max_nodes }
     ensures value { IfOk result (λ c. c ≡ meet one.now other.now) }
     ensures cost { ticks.new ≤ ticks.old + 3 * meet_cost one.now other.now }
@@ -55,12 +48,7 @@ fn meet_tags<L: Ledger>(
 /// Returns the intersection of two tags that are neither sets nor `(*)`, so no `unreachable!()` is reached. It is `(* set)` for a list and
 /// a tag without members. Err if memory ran out, or if a shared part has too many owners to count.
 #[cycle(meet)]
-fn meet_single<L: Ledger>(
-    alloc: Global,
-    one: &Tag,
-    other: &Tag,
-    ticks: &mut Ticks<L>,
-) -> Result<Tag, AllocError>
+fn meet_single(alloc: Global, one: &Tag, other: &Tag, ticks: &mut Ticks) -> Result<Tag, AllocError>
     requires bound { nodes one.now * nodes other.now ≤ max_nodes }
     requires one { is_set_or_star one.now ≡ false }
     requires other { is_set_or_star other.now ≡ false }
@@ -96,13 +84,13 @@ fn meet_single<L: Ledger>(
 /// then the members `others`. It is `(* set)` if the heads differ, or if the intersection of two members at one position is `(* set)`. Err
 /// if memory ran out, or if a shared part has too many owners to count.
 #[cycle(meet)]
-fn meet_lists<L: Ledger>(
+fn meet_lists(
     alloc: Global,
     head: &SharedOctets,
     further: &[Tag],
     other: &SharedOctets,
     others: &[Tag],
-    ticks: &mut Ticks<L>,
+    ticks: &mut Ticks,
 ) -> Result<Tag, AllocError>
     requires bound { nodes_all (tags further.now) * nodes_all (tags others.now) ≤ max_nodes }
     requires one { each_normal is_nothing (tags further.now) ≡ true }
@@ -127,11 +115,11 @@ fn meet_lists<L: Ledger>(
 /// that member is copied. None if some intersection is `(* set)`: then that of the lists is too. Err if memory ran out, or if a shared part has too
 /// many owners to count.
 #[cycle(meet)]
-fn meet_each<L: Ledger>(
+fn meet_each(
     alloc: Global,
     ones: &[Tag],
     others: &[Tag],
-    ticks: &mut Ticks<L>,
+    ticks: &mut Ticks,
 ) -> Result<Option<Vec<Tag>>, AllocError>
     requires bound { nodes_all (tags ones.now) * nodes_all (tags others.now) ≤ max_nodes }
     requires one { each_normal is_nothing (tags ones.now) ≡ true }
@@ -164,11 +152,11 @@ fn meet_each<L: Ledger>(
 /// once that they have no request in common, such as two strings that differ, or a string and a list. Err if memory ran out, or if a shared
 /// part has too many owners to count.
 #[cycle(meet)]
-fn meet_members<L: Ledger>(
+fn meet_members(
     alloc: Global,
     ones: &[Tag],
     others: &[Tag],
-    ticks: &mut Ticks<L>,
+    ticks: &mut Ticks,
 ) -> Result<Tag, AllocError>
     requires bound { nodes_all (tags ones.now) * nodes_all (tags others.now) ≤ max_nodes }
     requires met { IsNormalTag (gather (pairs (tags ones.now) (tags others.now))) }
@@ -192,13 +180,13 @@ fn meet_members<L: Ledger>(
 /// has found for `one`. Intersections that are `(* set)` are left out. Err if memory ran out, or if a shared part has too many owners to count; then
 /// `met` may have some of them.
 #[cycle(meet)]
-fn push_row<L: Ledger>(
+fn push_row(
     alloc: Global,
     met: &mut Vec<Tag>,
     one: &Tag,
     others: &[Tag],
     positions: &[usize],
-    ticks: &mut Ticks<L>,
+    ticks: &mut Ticks,
 ) -> Result<(), AllocError>
     requires bound { nodes one.now * nodes_all (tags others.now) ≤ max_nodes }
     requires positions { All (λ n. (1 ≤ n) × (n < 1 + length others.now)) positions.now }
@@ -233,8 +221,7 @@ impl Tag {
         self.meet_within(alloc, other, MAX_NODES)
     }
 
-    /// Like `meet`, with `max_product` as the limit of the product instead. `max_product` must be at most 1,000,000. `Brand` and `Blank` make a count
-    /// of work, which exists only in contracts.
+    /// Like `meet`, with `max_product` as the limit of the product instead. `max_product` must be at most 1,000,000.
     ///
     /// # Errors
     ///
@@ -254,33 +241,7 @@ impl Tag {
             × (ldepth c ≤ max (ldepth self.now) (ldepth other.now))) }
         ensures too_large { IsErrOf result MeetFault.TooLarge ↔ (max_product < nodes self.now * nodes other.now) }
     {
-        // `Brand` and `Blank` are for a count of ticks, which exists only in contracts: see `Ticks`.
-        self.meet_with_new_count::<Brand>(alloc, other, max_product, Blank::new(1))
-    }
-
-    /// Does what `meet_within` does: calls `meet_counted` with a new count of ticks (operations that contracts count). The count exists only in
-    /// contracts, and is dropped afterwards. `blank` is a new ledger of the toolchain, to keep the count in; it must be that of `L`. `L` has a name
-    /// only in a generic function, such as this one: its caller writes `Brand` for it. Err is `TooLarge` if the product of the numbers of nodes of
-    /// both tags is over `max_product`, or `Memory`.
-    fn meet_with_new_count<L: Ledger>(
-        &self,
-        alloc: Global,
-        other: &Tag,
-        max_product: usize,
-        blank: Blank,
-    ) -> Result<Tag, MeetFault>
-        requires max_product { max_product ≤ 1000000 }
-        requires name { blank.name ≡ L.name }
-        requires parts { blank.parts ≡ L.parts }
-        requires some { 0 < blank.parts }
-        ensures value { IfOk result (λ c. c ≡ meet self.now other.now) }
-        ensures exact { IfOk result (λ c. (g : Request) → IsRequest g
-            → contains c g ≡ (contains self.now g && contains other.now g)) }
-        ensures bounds { IfOk result (λ c. (nodes c ≤ nodes self.now * nodes other.now)
-            × (ldepth c ≤ max (ldepth self.now) (ldepth other.now))) }
-        ensures too_large { IsErrOf result MeetFault.TooLarge ↔ (max_product < nodes self.now * nodes other.now) }
-    {
-        self.meet_counted(alloc, other, max_product, &mut Ticks::<L>::new(blank))
+        self.meet_counted(alloc, other, max_product, &mut Ticks::new())
     }
 
     /// Does what `meet_within` does, and adds its work to `ticks`, which exists only in contracts: one for each pair of tags whose
@@ -294,12 +255,12 @@ impl Tag {
     /// `TooLarge` if the product of the numbers of nodes of both tags is over `max_product`; then nothing is added to `ticks`. `Memory` if memory
     /// ran out, or if a shared part has too many owners to count.
     #[tactic(auto, using(crate::proofs::Exact::meet_exact, crate::proofs::MeetSizes::meet_le, crate::proofs::NormalForms::meet_ldepth))]
-    pub fn meet_counted<L: Ledger>(
+    pub fn meet_counted(
         &self,
         alloc: Global,
         other: &Tag,
         max_product: usize,
-        ticks: &mut Ticks<L>,
+        ticks: &mut Ticks,
     ) -> Result<Tag, MeetFault>
         requires { max_product ≤ 1000000 }
         ensures value { IfOk result (λ c. c ≡ meet self.now other.now) }

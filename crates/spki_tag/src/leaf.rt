@@ -10,7 +10,6 @@ use crate::range::Range;
 use crate::string_octets::StringOctets;
 use crate::ticks::Ticks;
 use std::alloc::AllocError;
-use std::sync::ledger::Ledger;
 use std::sync::{Arc, ArcSlice};
 
 /// Octets of a tag. Its copies share them, and so does an intersection with the tags that it was made of. A copy fails only if 2^63
@@ -108,7 +107,7 @@ pub(crate) fn copied_limit(limit: &Option<Limit>) -> Result<Option<Limit>, Alloc
 
 /// Adds to `ticks`, a count of work that exists only in contracts, one for each octet of a range's limit. Adds nothing if the limit is
 /// missing. The octets are compared elsewhere, in `holds` and `meet`.
-fn count_limit<L: Ledger>(limit: &Option<Limit>, ticks: &mut Ticks<L>)
+fn count_limit(limit: &Option<Limit>, ticks: &mut Ticks)
     ensures { ticks.new ≡ ticks.old + limit_octets (limit_of limit.now) }
 {
     match limit {
@@ -136,7 +135,7 @@ impl Leaf {
 
     /// Returns what `holds` returns, and adds to `ticks`, a count of work that exists only in contracts, one for each octet of the tag's
     /// strings, compared or not. The weight of a tag also counts the tag itself, which is the 1 in the contract: the caller adds that.
-    pub(crate) fn holds_counted<L: Ledger>(&self, octets: &[u8], ticks: &mut Ticks<L>) -> bool
+    pub(crate) fn holds_counted(&self, octets: &[u8], ticks: &mut Ticks) -> bool
         ensures answer { result ≡ contains (leaf_tag self.now) (string octets.now) }
         ensures cost { ticks.new + 1 ≡ ticks.old + weight (leaf_tag self.now) }
     {
@@ -146,7 +145,7 @@ impl Leaf {
 
     /// Adds to `ticks`, a count of work that exists only in contracts, one for each octet of the tag's strings: a string, a prefix, or the
     /// limits of a range. Nothing is compared here. The weight also counts the tag itself, the 1 in the contract: the caller adds that.
-    pub(crate) fn count_strings<L: Ledger>(&self, ticks: &mut Ticks<L>)
+    pub(crate) fn count_strings(&self, ticks: &mut Ticks)
         ensures { ticks.new + 1 ≡ ticks.old + weight (leaf_tag self.now) }
     {
         match self {

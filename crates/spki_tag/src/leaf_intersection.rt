@@ -10,7 +10,6 @@ use crate::string_octets::StringOctets;
 use crate::ticks::Ticks;
 use std::alloc::{AllocError, Global};
 use std::sync::Arc;
-use std::sync::ledger::Ledger;
 
 /// Returns the intersection of a string and `other`: the string if `other` contains it. Otherwise None, which stands for `(* set)`. Err if
 /// a shared part has too many owners to count.
@@ -55,11 +54,11 @@ impl Leaf {
     /// more to see whether the limits exclude each other. The 3 in the contract are for the tag itself, which `weight` counts and this
     /// function does not. None if the intersection is `(* set)`. Err if memory ran out, or if a shared part has too many owners to count; then too
     /// the ticks are added.
-    pub(crate) fn meet_counted<L: Ledger>(
+    pub(crate) fn meet_counted(
         &self,
         alloc: Global,
         other: &Leaf,
-        ticks: &mut Ticks<L>,
+        ticks: &mut Ticks,
     ) -> Result<Option<Leaf>, AllocError>
         ensures value { IfOk result (λ r. leaf_or_nothing r ≡ meet (leaf_tag self.now) (leaf_tag other.now)) }
         ensures cost { ticks.new + 3 ≡ ticks.old + 3 * weight (leaf_tag other.now) }

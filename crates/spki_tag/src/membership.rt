@@ -8,8 +8,6 @@ use crate::request::{Ground, GroundNode};
 use crate::shared_tags::tags_in;
 use crate::tag::{Node, Tag};
 use crate::ticks::Ticks;
-use std::marker::Brand;
-use std::sync::ledger::{Blank, Ledger};
 
 impl Tag {
     /// Whether the tag contains a request (RFC 2693, section 6.3.1). A list contains the lists with the same head and at
@@ -18,21 +16,7 @@ impl Tag {
     pub fn holds(&self, request: &Ground) -> bool
         ensures { result ≡ contains self.now request.now }
     {
-        // `Brand` and `Blank` are for a count of ticks, which exists only in contracts: see `Ticks`.
-        self.holds_with_new_count::<Brand>(request, Blank::new(1))
-    }
-
-    /// Does what `holds` does: calls `holds_counted` with a new count of ticks (operations that contracts count). The count exists only in contracts,
-    /// and is dropped afterwards. `blank` is a new ledger of the toolchain, to keep the count in; it must be that of `L`. `L` has a name only in a
-    /// generic function, such as this one: its caller writes `Brand` for it.
-    fn holds_with_new_count<L: Ledger>(&self, request: &Ground, blank: Blank) -> bool
-        requires name { blank.name ≡ L.name }
-        requires parts { blank.parts ≡ L.parts }
-        requires some { 0 < blank.parts }
-        ensures { result ≡ contains self.now request.now }
-    {
-        let mut ticks = Ticks::<L>::new(blank);
-        self.holds_counted(request, &mut ticks)
+        self.holds_counted(request, &mut Ticks::new())
     }
 
     /// Returns what `holds` returns, and adds its work to `ticks`, a count that exists only in contracts: one for each tag that is tested.
@@ -42,7 +26,7 @@ impl Tag {
     /// most the number of octets of the canonical text that was read (law `read_weight`). It adds at least the weight of what has to be tested
     /// for this answer (`tested_weight`).
     #[cycle(holds)]
-    pub fn holds_counted<L: Ledger>(&self, request: &Ground, ticks: &mut Ticks<L>) -> bool
+    pub fn holds_counted(&self, request: &Ground, ticks: &mut Ticks) -> bool
         ensures answer { result ≡ contains self.now request.now }
         ensures cost { ticks.new ≤ ticks.old + weight self.now }
         ensures tested { ticks.old + tested_weight self.now request.now ≤ ticks.new }
@@ -71,7 +55,7 @@ impl Tag {
 /// a request. False if there are fewer requests than tags. Further requests may be anything. The work is added to `ticks`, as by
 /// `holds_counted`: at most the weights of the tags, and if the answer is true at least what has to be tested of each.
 #[cycle(holds)]
-fn each_holds<L: Ledger>(members: &[Tag], requests: &[Ground], ticks: &mut Ticks<L>) -> bool
+fn each_holds(members: &[Tag], requests: &[Ground], ticks: &mut Ticks) -> bool
     ensures answer { result ≡ contain_each (tags members.now) (spec.requests requests.now) }
     ensures cost { ticks.new ≤ ticks.old + weight_all (tags members.now) }
     ensures grows { ticks.old ≤ ticks.new }
@@ -91,7 +75,7 @@ fn each_holds<L: Ledger>(members: &[Tag], requests: &[Ground], ticks: &mut Ticks
 /// Whether at least one of the tags, the members of a set, contains the request. The work is added to `ticks`, as by `holds_counted`: at
 /// most the weights of the tags, and at least what has to be tested: of each tag if the answer is false, else of the lightest that contains it.
 #[cycle(holds)]
-fn some_holds<L: Ledger>(members: &[Tag], request: &Ground, ticks: &mut Ticks<L>) -> bool
+fn some_holds(members: &[Tag], request: &Ground, ticks: &mut Ticks) -> bool
     ensures answer { result ≡ some_contains (tags members.now) request.now }
     ensures cost { ticks.new ≤ ticks.old + weight_all (tags members.now) }
     ensures grows { ticks.old ≤ ticks.new }

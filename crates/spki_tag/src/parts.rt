@@ -7,7 +7,6 @@ use crate::leaf::Leaf;
 use crate::tag::Tag;
 use crate::ticks::Ticks;
 use std::alloc::AllocError;
-use std::sync::ledger::Ledger;
 
 /// The tag of `leaf`, or `(* set)` for None.
 pub(crate) fn leaf_or_nothing(leaf: Option<Leaf>) -> Tag
@@ -34,10 +33,10 @@ pub(crate) fn push_kept(met: &mut Vec<Tag>, tag: Tag) -> Result<(), AllocError>
 /// one for each to `ticks`, a count of work that exists only in contracts. Err if memory ran out, or if a shared part has too many owners to count;
 /// then `met` may have some of them.
 #[tactic(auto, using(crate::proofs::Members::fewer_than_nodes))]
-pub(crate) fn push_copies<L: Ledger>(
+pub(crate) fn push_copies(
     met: &mut Vec<Tag>,
     members: &[Tag],
-    ticks: &mut Ticks<L>,
+    ticks: &mut Ticks,
 ) -> Result<(), AllocError>
     ensures copies { OnOk result (met.new.items ≡ met.old.items ++ members.now) }
     ensures cost { ticks.new ≤ ticks.old + nodes_all (tags members.now) }

@@ -1,57 +1,56 @@
 //! Counts of steps, which exist only in contracts and cost nothing at run time.
 
-ghost use Rattle.std.specs.Prelude.{◌≡◌, ◌+◌, ◌<◌};
+ghost use Rattle.std.specs.Prelude.{◌≡◌, ◌+◌, ℕ};
 
 use std::marker::Model;
-use std::sync::ledger::{Blank, Book, Ledger, Share};
 
 /// A count of steps, which are ticks. It takes no octets and no time, since it exists only in contracts. Only `tick` and `read` change it, and they
 /// only add. In a contract it is a number.
 ///
-/// A function whose name ends with `_counted` adds to the count of its caller. One whose name ends with `_with_new_count` makes a count for
-/// a caller that has none. It is a function of its own because a count needs a type `L`, which tells it from other counts, and `L` has a name
-/// only in a generic function. The caller of that one writes `Brand` for `L`.
+/// No contract says at which number a new count begins. So a function that puts a new count in the place of its caller's meets no clause that compares
+/// the count before and after. A function whose name ends with `_counted` has such clauses, and the one without this ending calls it with a new count.
+/// The layout is that of C, so that an exported function can take a reference.
 #[derive(Drop)]
-pub struct Ticks<L: Ledger> {
-    /// The total of a ledger: the toolchain's name for a sum that exists only in contracts.
-    book: Book<L>,
-    /// A part of the ledger. Only with one may anything be added.
-    share: Share<L>,
+#[repr(C)]
+pub struct Ticks {
+    ghost count: { ℕ },
 }
 
-impl<L: Ledger> Model for Ticks<L> {
-    ghost use Rattle.std.specs.Prelude.{ℕ, ◌<◌};
+impl Model for Ticks {
+    ghost use Rattle.std.specs.Prelude.{ℕ};
+    ghost use Rattle.std.specs.Borrow.{ftrue};
 
     ghost Value = { ℕ };
 
-    ghost view = { λ t. t.book.total };
+    ghost view = { λ t. t.count };
 
-    ghost invariant = { λ t. 0 < t.share.parts };
+    ghost also_owns = { λ _. ftrue };
 }
 
-impl<L: Ledger> Ticks<L> {
-    /// A count of 0. `blank` is a new ledger of the toolchain, in which the count is kept. It must be that of `L`.
-    pub fn new(blank: Blank) -> Ticks<L>
-        requires name { blank.name ≡ L.name }
-        requires parts { blank.parts ≡ L.parts }
-        requires some { 0 < blank.parts }
-        ensures { result ≡ 0 }
+impl Ticks {
+    /// A new count. It begins at some number.
+    pub fn new() -> Ticks {
+        Ticks {}
+    }
+
+    /// The count that has `_more` steps more than `_before`.
+    fn with(_before: &Ticks, _more: &u64) -> Ticks
+        ensures { result ≡ _before.now + _more.now }
     {
-        let (book, share) = blank.open::<L>();
-        Ticks { book, share }
+        Ticks {}
     }
 
     /// Adds 1, for a tag or another value that is looked at or copied.
     pub fn tick(&mut self)
         ensures { self.new ≡ self.old + 1 }
     {
-        self.book.add(&mut self.share, 1);
+        *self = Ticks::with(self, &1);
     }
 
     /// Adds `octets`, a number of octets that are read or compared. Callers also count the members that are copied, and names, by this.
     pub fn read(&mut self, octets: usize)
         ensures { self.new ≡ self.old + octets }
     {
-        self.book.add(&mut self.share, octets as u64);
+        *self = Ticks::with(self, &(octets as u64));
     }
 }

@@ -12,6 +12,7 @@ use spki_decision::{Decision, Grant, GuardFault, Reduction};
 use spki_service::{
     AclFault, AskFault, Guard, Limits, Moment, PreparedQuestion, Question, RequestInput, Texts,
 };
+use spki_tag::Ticks;
 use std::alloc::{AllocError, Global};
 
 /// Does the library call that `name` names, such as `Guard::read`, with the texts of a row of a test table as its arguments, and returns its answer.
@@ -251,11 +252,11 @@ impl CalledBy for PreparedQuestion<'_> {
 /// ignores them.
 fn with_marks(alloc: Global, wanted: Option<Wanted>, asked: &PreparedQuestion) -> Reply {
     match wanted {
-        Some(Wanted::Decision) => answer(alloc, asked.decide_by(alloc)),
-        Some(Wanted::Grant) => granted(alloc, asked.grant_by(alloc)),
-        Some(Wanted::Possibility) => answer(alloc, asked.is_possible(alloc)),
-        Some(Wanted::Explanation) => answer(alloc, asked.explain_by(alloc)),
-        Some(Wanted::Reduction) => answer(alloc, asked.reduce_by(alloc)),
+        Some(Wanted::Decision) => answer(alloc, asked.decide_by(alloc, &mut Ticks::new())),
+        Some(Wanted::Grant) => granted(alloc, asked.grant_by(alloc, &mut Ticks::new())),
+        Some(Wanted::Possibility) => answer(alloc, asked.is_possible(alloc, &mut Ticks::new())),
+        Some(Wanted::Explanation) => answer(alloc, asked.explain_by(alloc, &mut Ticks::new())),
+        Some(Wanted::Reduction) => answer(alloc, asked.reduce_by(alloc, &mut Ticks::new())),
         Some(Wanted::ReductionInto) => answer(alloc, reduction(alloc, asked)),
         None => Err(Failure::Unknown),
     }
@@ -272,7 +273,7 @@ fn granted(alloc: Global, grant: Result<Option<Grant>, AllocError>) -> Reply {
 /// What `reduce_into` returns and puts into a vector, as the `Reduction` that `reduce_by` returns. So both have the same answer to a row.
 fn reduction<'a>(alloc: Global, asked: &PreparedQuestion<'a>) -> Result<Reduction<'a>, GuardFault> {
     let mut folds = Vec::new(alloc);
-    match asked.reduce_into(alloc, &mut folds)? {
+    match asked.reduce_into(alloc, &mut folds, &mut Ticks::new())? {
         Some(failure) => Ok(Reduction::Evidence {
             item: failure.item,
             stop: failure.stop,

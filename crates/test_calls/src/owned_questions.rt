@@ -7,6 +7,7 @@ use crate::guards::{guard, question};
 use crate::texts::{at, texts_from};
 use spki_decision::Grant;
 use spki_service::{OwnedQuestion, SharedGuard};
+use spki_tag::Ticks;
 use std::alloc::Global;
 
 /// Does the library call that `name` names, such as `OwnedQuestion::signed`, with the texts of a row of a test table as its arguments, and
@@ -29,7 +30,12 @@ pub fn shared(alloc: Global, texts: &[Vec<u8>]) -> Result<SharedGuard, Failure> 
 /// owner is freed before the question is returned, so the row also tests that the question keeps the guard alive.
 fn opened(alloc: Global, texts: &[Vec<u8>]) -> Result<OwnedQuestion, Failure> {
     let shared = shared(alloc, texts)?;
-    let opened = OwnedQuestion::open(alloc, &shared, &question(texts_from(texts, 4)));
+    let opened = OwnedQuestion::open(
+        alloc,
+        &shared,
+        &question(texts_from(texts, 4)),
+        &mut Ticks::new(),
+    );
     drop(shared);
     let mut opened = opened?;
     mark_all(&mut opened, at(texts, 8));
@@ -73,8 +79,8 @@ fn signed(alloc: Global, opened: &OwnedQuestion) -> Reply {
 
 /// The decision of `decide_by`, or the words `two decisions` if `grant_by` grants something else, which would be a fault of the library.
 fn decide(alloc: Global, opened: &OwnedQuestion) -> Reply {
-    let decision = opened.decide_by();
-    if Grant::decision(opened.grant_by()) != decision {
+    let decision = opened.decide_by(&mut Ticks::new());
+    if Grant::decision(opened.grant_by(&mut Ticks::new())) != decision {
         return word(alloc, "two decisions");
     }
     answer(alloc, decision)

@@ -5,6 +5,7 @@ use spki_guard::{
     IntersectFault, OpenedAnswer, OwnedQuestion, Printed, Query, SharedGuard, Verdict,
     answer_opened, check_accepted, intersect, is_granted, is_possible, open_question,
 };
+use spki_tag::Ticks;
 use std::alloc::Global;
 use test_calls::answers::{Reply, answer, joined, shown, word};
 use test_calls::failure::Failure;
@@ -91,7 +92,7 @@ fn answers_to(alloc: Global, guard: &SharedGuard, query: Query, texts: &[Vec<u8>
 
 /// The answer to one question, or the line that refuses it. The texts are its sequence, key, request, moment and marks.
 fn answer_to(alloc: Global, guard: &SharedGuard, query: Query, texts: &[Vec<u8>]) -> Reply {
-    match open_question(alloc, guard, &question(texts)) {
+    match open_question(alloc, guard, &question(texts), &mut Ticks::new()) {
         Err(refusal) => line(alloc, refusal),
         Ok(opened) => answer_of(alloc, query, opened, at(texts, 4)),
     }
@@ -105,10 +106,10 @@ fn answer_of(alloc: Global, query: Query, mut opened: OwnedQuestion, marks: &[u8
         drop(opened);
         return word(alloc, "other marks");
     }
-    let OpenedAnswer { answer, grant } = answer_opened(alloc, query, &opened);
+    let OpenedAnswer { answer, grant } = answer_opened(alloc, query, &opened, &mut Ticks::new());
     let is_yes = query == Query::Decide && answer.verdict == Verdict::Done;
-    let is_same = is_granted(&opened) == is_yes && grant.is_some() == is_yes;
-    let is_fit = is_possible(&opened) || !is_granted(&opened);
+    let is_same = is_granted(&opened, &mut Ticks::new()) == is_yes && grant.is_some() == is_yes;
+    let is_fit = is_possible(&opened) || !is_granted(&opened, &mut Ticks::new());
     drop(opened);
     let is_decided = query == Query::Decide && answer.verdict != Verdict::Refused;
     if is_decided && !(is_same && is_fit) {

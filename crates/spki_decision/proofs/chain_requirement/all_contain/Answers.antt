@@ -6,7 +6,7 @@ use Rattle.spki_decision.proofs.{Costs.{contents_first, tested_first}, ChainRequ
 use Rattle.spki_decision.proofs.chain_requirement.all_contain.Goals as goal
 
 pub returns-then-not-contains : goal.returns-then-not-contains
-returns-then-not-contains g c =
+returns-then-not-contains c =
     let step = contents_first c.args.steps.now _ c.step-item.result c.loop-step-test.true c.step-item.is in
     record {
       answer = (
@@ -22,7 +22,7 @@ returns-then-not-contains g c =
     }
 
 pub loop-step-preserved : goal.loop-step-preserved
-loop-step-preserved g c =
+loop-step-preserved c =
     let step = contents_first c.args.steps.now _ c.step-item.result c.loop-step-test.true c.step-item.is in
     let more = tested_first c.args.case.now.request c.args.steps.now _ c.step-item.result c.loop-step-test.true c.step-item.is in
     record {
@@ -37,6 +37,6 @@ loop-step-preserved g c =
     }
 
 pub returns-clause-end : goal.returns-clause-end
-returns-clause-end g c all windows before =
+returns-clause-end c all windows before =
     subst (λ (ss : List Step). IsLeastEnd (windows ++ all_windows (tuples_of ss)) c.loop-step.until)
     (take_all c.loop-step.step-index c.args.steps.now c.loop-step-test.false) (c.loop-step.invariant.end windows before)

@@ -7,7 +7,7 @@ use Rattle.spki_decision.proofs.chain_requirement.all_contain.Given as goal
 
 -- the steps so far contain the request and the moment
 abbrev pub invariant-loop-step : goal.invariant-loop-step
-invariant-loop-step g l = record {
+invariant-loop-step l = record {
   contain : AllContain (model l.case) (tuples_of (take l.step-index l.steps));
   end : (windows : List Window) → IsLeastEnd windows l.fn.until → IsLeastEnd (windows ++ all_windows (tuples_of (take l.step-index l.steps))) l.until;
   cost : l.ticks + contents_weight (tuples_of (drop l.step-index l.steps)) ≤ l.fn.ticks + contents_weight (tuples_of l.steps);

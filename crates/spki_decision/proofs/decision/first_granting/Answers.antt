@@ -7,7 +7,7 @@ use Rattle.spki_decision.specs.{Granted.{IsWithinWork}, Requirements.{work_left}
 use Rattle.spki_decision.proofs.decision.first_granting.Goals as goal
 
 pub returns-then-grants-clause-named : goal.returns-then-grants-clause-named
-returns-then-grants-clause-named g c =
+returns-then-grants-clause-named c =
     let case = model c.args.case.now in
     let tuples = tuples_of c.args.steps.now in
     found case tuples c.loop-index.index c.entry-item.result
@@ -15,7 +15,7 @@ returns-then-grants-clause-named g c =
     ((c.grants.ensures tuples c.in_ok-requirement.ensures.answer).0 c.if-grants.true) c.loop-index.invariant.none_before
 
 pub returns-then-grants-clause-within_limit : goal.returns-then-grants-clause-within_limit
-returns-then-grants-clause-within_limit g c =
+returns-then-grants-clause-within_limit c =
     let case = model c.args.case.now in
     let tuples = tuples_of c.args.steps.now in
     let e = c.entry-item.result in
@@ -28,7 +28,7 @@ returns-then-grants-clause-within_limit g c =
     )
 
 pub returns-in-Err-clause-too_large : goal.returns-in-Err-clause-too_large
-returns-in-Err-clause-too_large g c h =
+returns-in-Err-clause-too_large c h =
     let case = model c.args.case.now in
     let tuples = tuples_of c.args.steps.now in
     let e = c.entry-item.result in
@@ -42,7 +42,7 @@ returns-in-Err-clause-too_large g c h =
     }
 
 pub loop-index-preserved : goal.loop-index-preserved
-loop-index-preserved g c =
+loop-index-preserved c =
     let case = model c.args.case.now in
     let tuples = tuples_of c.args.steps.now in
     let e = c.entry-item.result in
@@ -58,7 +58,7 @@ loop-index-preserved g c =
     }
 
 pub loop-index-init : goal.loop-index-init
-loop-index-init g c = record {
+loop-index-init c = record {
   none_before = λ k e below. absurd (omega (arith, below));
   small_before = λ k e below. absurd (omega (arith, below));
   spent = none_spent (model c.args.case.now) (tuples_of c.args.steps.now) _ c.of-budget.ensures.work;
@@ -66,7 +66,7 @@ loop-index-init g c = record {
 }
 
 pub returns-clause-within_limit : goal.returns-clause-within_limit
-returns-clause-within_limit g c =
+returns-clause-within_limit c =
     let case = model c.args.case.now in
     let low = c.loop-index-test.false in
     let whole : c.loop-index.index ≡ length case.entries = omega (arith, low, c.loop-index.auto, c.deref-entry-items.ensures.value) in (
@@ -76,7 +76,7 @@ returns-clause-within_limit g c =
     )
 
 pub returns-clause-named : goal.returns-clause-named
-returns-clause-named g c k e there =
+returns-clause-named c k e there =
     let below = slice_get_within (model c.args.case.now).entries k e there in
     let low = c.loop-index-test.false in
     c.loop-index.invariant.none_before k e (omega (arith, below, low, c.deref-entry-items.ensures.value)) there

@@ -3,12 +3,12 @@ use Rattle.spki_decision.proofs.{ChainRequirements.{begins_more, begins_not}, Co
 use Rattle.spki_decision.proofs.required_subject.names_after.Goals as goal
 
 pub returns-then-not-has_first-clause-none : goal.returns-then-not-has_first-clause-none
-returns-then-not-has_first-clause-none g c =
+returns-then-not-has_first-clause-none c =
     begins_not c.args.names c.args.front.now c.loop-index.rest c.loop-index.index c.at-in-loop-index.result.now c.at-in-loop-index.ensures
     c.loop-index.invariant.begun (λ first. search rules)
 
 pub loop-index-preserved : goal.loop-index-preserved
-loop-index-preserved g c =
+loop-index-preserved c =
     let step = names_step c.args.front.now c.loop-index.index c.at.result.now c.at.ensures in
     record {
       begun = begins_more c.args.names c.args.front.now c.loop-index.rest c.loop-index.index c.at-in-loop-index.result.now c.at-in-loop-index.ensures

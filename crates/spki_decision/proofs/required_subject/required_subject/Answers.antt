@@ -3,7 +3,7 @@ use Rattle.spki_decision.proofs.{Costs.{paths_last}, ChainRequirements.{begin_fr
 use Rattle.spki_decision.proofs.required_subject.required_subject.Goals as goal
 
 pub loop-done-init : goal.loop-done-init
-loop-done-init g c =
+loop-done-init c =
     record {
       required = begin_from c.args.policy c.args.steps.now c.args.key.now _ c.share.ensures c.none.ensures refl;
       cost = search (arith, take_all);
@@ -11,7 +11,7 @@ loop-done-init g c =
     }
 
 pub loop-done-preserved : goal.loop-done-preserved
-loop-done-preserved g c =
+loop-done-preserved c =
     let steps = c.args.steps.now in
     let n = c.loop-done.done in
     let step = c.index-steps-steps.result in
@@ -25,7 +25,7 @@ loop-done-preserved g c =
     }
 
 pub returns-in-None-clause-answer : goal.returns-in-None-clause-answer
-returns-in-None-clause-answer g c =
+returns-in-None-clause-answer c =
     let steps = c.args.steps.now in
     let n = c.loop-done.done in
     let step = c.index-steps-steps.result in
@@ -35,7 +35,7 @@ returns-in-None-clause-answer g c =
     None (rw c.in-None.is at c.in_ok-before.ensures.answer))
 
 pub returns-clause-answer : goal.returns-clause-answer
-returns-clause-answer g c =
+returns-clause-answer c =
     let steps = c.args.steps.now in
     let n = c.loop-done.done in
     let end : length steps - n ≡ 0 = omega (arith, c.loop-done-test.false) in
@@ -43,14 +43,14 @@ returns-clause-answer g c =
     (ap (λ k. take k steps) end) c.loop-done.invariant.required
 
 pub returns-in_err-before-clause-cost : goal.returns-in_err-before-clause-cost
-returns-in_err-before-clause-cost g c =
+returns-in_err-before-clause-cost c =
     let steps = c.args.steps.now in
     let n = c.loop-done.done in
     let last = paths_last steps n (length steps - 1 - n) c.index-steps-steps.result c.loop-done-test.true refl c.index-steps-steps.is in
     omega (arith, last, c.loop-done.invariant.cost, c.in_err-before.ensures.cost)
 
 pub returns-in-None-clause-cost : goal.returns-in-None-clause-cost
-returns-in-None-clause-cost g c =
+returns-in-None-clause-cost c =
     let steps = c.args.steps.now in
     let n = c.loop-done.done in
     let last = paths_last steps n (length steps - 1 - n) c.index-steps-steps.result c.loop-done-test.true refl c.index-steps-steps.is in

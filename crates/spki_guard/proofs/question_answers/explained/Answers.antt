@@ -7,7 +7,7 @@ returns-clause-large c e =
     let (octets, prints, long) = c.within.ensures.large e in
     inr (record {
       explanation = c.in_ok-explanation.explanation;
-      is = c.in_ok-explanation.ensures;
+      is = c.in_ok-explanation.ensures.answer;
       verdict = answer_verdict c.answer_of_explanation-answer.result;
       lines = octets;
       report = c.answer_of_explanation-answer.ensures octets prints;

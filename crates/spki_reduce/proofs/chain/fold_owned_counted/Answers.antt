@@ -12,13 +12,13 @@ same_fault (Ok x) inner fault h k = absurd h
 same_fault (Err y) inner fault h k = let same : y ≡ fault = cc in sym h ∙ same
 
 pub returns-in_err-next-clause-too_large : goal.returns-in_err-next-clause-too_large
-returns-in_err-next-clause-too_large g c e =
+returns-in_err-next-clause-too_large c e =
     let same = same_fault c.from_residual.result c.in_err-next.field-0.0 TooLarge c.from_residual.ensures.1 e in
     inl (too_large_here c.args.steps.now c.loop-index.index c.loop-index-test.true c.index-steps-index.is c.loop-index.invariant.folds
     c.loop-index.invariant.value c.args.max_product (c.in_err-next.ensures.too_large (ap Err same)))
 
 pub returns-in-Err-clause-too_large : goal.returns-in-Err-clause-too_large
-returns-in-Err-clause-too_large g c e =
+returns-in-Err-clause-too_large c e =
     let so_far = c.loop-index.invariant.worked in
     let index = c.loop-index-test.true in
     inr (record {
@@ -31,40 +31,40 @@ returns-in-Err-clause-too_large g c e =
     })
 
 pub returns-in-Stopped-clause-fold : goal.returns-in-Stopped-clause-fold
-returns-in-Stopped-clause-fold g c =
+returns-in-Stopped-clause-fold c =
     stops_here c.args.steps.now c.loop-index.index c.loop-index-test.true c.index-steps-index.is c.loop-index.invariant.folds
     c.loop-index.invariant.value c.in-Stopped.cause (rw c.in-Stopped.is at c.in_ok-next.ensures.joined)
     (rw c.in-Stopped.is at c.in_ok-next.ensures.value)
 
 pub returns-in-Stopped-clause-excluded : goal.returns-in-Stopped-clause-excluded
-returns-in-Stopped-clause-excluded g c = search (rules, excluded, returns-in-Stopped-clause-fold)
+returns-in-Stopped-clause-excluded c = search (rules, excluded, returns-in-Stopped-clause-fold)
 
 pub returns-in-Stopped-clause-unsupported : goal.returns-in-Stopped-clause-unsupported
-returns-in-Stopped-clause-unsupported g c =
+returns-in-Stopped-clause-unsupported c =
     unsupported c.args.policy (five (five_tuple c.args.first)) (tuples_of c.args.steps.now) (c.loop-index.index + 1)
-    c.in-Stopped.cause (returns-in-Stopped-clause-fold g c)
+    c.in-Stopped.cause (returns-in-Stopped-clause-fold c)
 
 pub returns-in-Stopped-clause-within_limit : goal.returns-in-Stopped-clause-within_limit
-returns-in-Stopped-clause-within_limit g c =
+returns-in-Stopped-clause-within_limit c =
     small_stopped c.args.steps.now c.loop-index.index c.loop-index-test.true c.index-steps-index.is c.loop-index.invariant.folds
     c.loop-index.invariant.value c.loop-index.invariant.within_limit c.in_ok-next.ensures.within_limit c.in-Stopped.cause
-    (returns-in-Stopped-clause-fold g c)
+    (returns-in-Stopped-clause-fold c)
 
 pub returns-in-Stopped-clause-worked : goal.returns-in-Stopped-clause-worked
-returns-in-Stopped-clause-worked g c =
+returns-in-Stopped-clause-worked c =
     let so_far = c.loop-index.invariant.worked in
     let index = c.loop-index-test.true in
     let here = work_here c.args.steps.now c.loop-index.index c.loop-index-test.true c.index-steps-index.is c.loop-index.invariant.folds
     c.loop-index.invariant.value so_far.0 c.cost_with.ensures.0 so_far.1 c.cost_with.ensures.2 in (
       so_far.0 + c.cost_with.ensures.0,
       work_stopped c.args.policy (five (five_tuple c.args.first)) (tuples_of c.args.steps.now) (steps_tagged c.args.steps.now)
-          (c.loop-index.index + 1) c.in-Stopped.cause (returns-in-Stopped-clause-fold g c) (so_far.0 + c.cost_with.ensures.0)
+          (c.loop-index.index + 1) c.in-Stopped.cause (returns-in-Stopped-clause-fold c) (so_far.0 + c.cost_with.ensures.0)
           (omega (arith, index, length-map c.args.steps.now step_tuple)) here,
       taken _ _ _ so_far.0 c.cost_with.ensures.0 so_far.2 (c.in_default.ensures.taken c.cost_with.ensures.0 c.cost_with.ensures.1),
     )
 
 pub loop-index-preserved : goal.loop-index-preserved
-loop-index-preserved g c =
+loop-index-preserved c =
     let made = rw c.in-Done.is at c.in_ok-next.ensures.joined in
     let so_far = c.loop-index.invariant.worked in
     record {
@@ -93,7 +93,7 @@ loop-index-preserved g c =
     }
 
 pub returns-in-Err-clause-cost : goal.returns-in-Err-clause-cost
-returns-in-Err-clause-cost g c =
+returns-in-Err-clause-cost c =
     let so_far = c.loop-index.invariant.worked in
     record {
       steps = c.loop-index.index;
@@ -105,7 +105,7 @@ returns-in-Err-clause-cost g c =
     }
 
 pub returns-in_err-next-clause-cost : goal.returns-in_err-next-clause-cost
-returns-in_err-next-clause-cost g c =
+returns-in_err-next-clause-cost c =
     let so_far = c.loop-index.invariant.worked in
     let (n, counted, costs) = c.cost_with.ensures in
     ticks_here c.args.steps.now c.loop-index.index c.loop-index-test.true c.index-steps-index.is c.loop-index.invariant.folds
@@ -113,7 +113,7 @@ returns-in_err-next-clause-cost g c =
     (c.in_err-next.ensures.cost n costs)
 
 pub returns-in-Stopped-clause-cost : goal.returns-in-Stopped-clause-cost
-returns-in-Stopped-clause-cost g c =
+returns-in-Stopped-clause-cost c =
     let so_far = c.loop-index.invariant.worked in
     let (n, counted, costs) = c.cost_with.ensures in
     ticks_here c.args.steps.now c.loop-index.index c.loop-index-test.true c.index-steps-index.is c.loop-index.invariant.folds
@@ -121,22 +121,22 @@ returns-in-Stopped-clause-cost g c =
     (c.in_ok-next.ensures.cost n costs)
 
 pub returns-clause-fold : goal.returns-clause-fold
-returns-clause-fold g c =
+returns-clause-fold c =
     subst (λ ts. FoldsTo c.args.policy (five (five_tuple c.args.first)) ts c.loop-index.folded)
     (whole c.args.steps.now c.loop-index.index c.loop-index-test.false) c.loop-index.invariant.folds
 
 pub returns-clause-value : goal.returns-clause-value
-returns-clause-value g c =
+returns-clause-value c =
     subst (λ ts. HasMet (five (five_tuple c.args.first)) ts c.loop-index.folded)
     (whole c.args.steps.now c.loop-index.index c.loop-index-test.false) c.loop-index.invariant.value
 
 pub returns-clause-within_limit : goal.returns-clause-within_limit
-returns-clause-within_limit g c =
+returns-clause-within_limit c =
     subst (λ ts. ¬ TooLargeAt c.args.max_product c.args.policy (five (five_tuple c.args.first)) ts)
     (whole c.args.steps.now c.loop-index.index c.loop-index-test.false) c.loop-index.invariant.within_limit
 
 pub returns-clause-worked : goal.returns-clause-worked
-returns-clause-worked g c =
+returns-clause-worked c =
     let so_far = c.loop-index.invariant.worked in (
       so_far.0,
       whole_work c.args.policy (five (five_tuple c.args.first)) c.args.steps.now c.loop-index.index so_far.0 c.loop-index-test.false
@@ -145,7 +145,7 @@ returns-clause-worked g c =
     )
 
 pub returns-clause-cost : goal.returns-clause-cost
-returns-clause-cost g c =
+returns-clause-cost c =
     let so_far = c.loop-index.invariant.worked in
     record {
       steps = c.loop-index.index;

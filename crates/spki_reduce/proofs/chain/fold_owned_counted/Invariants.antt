@@ -4,7 +4,7 @@ use Rattle.spki_reduce.specs.{Reduction.{five, five_tuple, issuer_of}, Chain.{tu
 use Rattle.spki_reduce.proofs.chain.fold_owned_counted.Given as goal
 
 abbrev pub invariant-loop-index : goal.invariant-loop-index
-invariant-loop-index g l = record {
+invariant-loop-index l = record {
   folds : FoldsTo l.policy (five (five_tuple l.fn.first)) (take l.index (tuples_of l.steps)) l.folded;
   value : HasMet (five (five_tuple l.fn.first)) (take l.index (tuples_of l.steps)) l.folded;
   within_limit : TooLargeAt l.max_product l.policy (five (five_tuple l.fn.first)) (take l.index (tuples_of l.steps)) → ⊥;

@@ -9,7 +9,7 @@ use Rattle.spki_service.proofs.{Costs.{octets_first, text_long, entry_light}, Se
 use Rattle.spki_service.proofs.granted_entry.first_granted.Goals as goal
 
 pub returns-then-grants-clause-answer : goal.returns-then-grants-clause-answer
-returns-then-grants-clause-answer g c es picked are picks =
+returns-then-grants-clause-answer c es picked are picks =
     let case = with_entries (model c.args.case.now) picked in
     let tuples = tuples_of c.args.steps.now in
     let i = c.loop-number.number-index in
@@ -21,7 +21,7 @@ returns-then-grants-clause-answer g c es picked are picks =
     (Yes (i + 1), named, ap (slice_get c.args.numbers.now) here ∙ slice_get-get_or c.args.numbers.now i 0 c.loop-number-test.true)
 
 pub returns-then-grants-clause-cost : goal.returns-then-grants-clause-cost
-returns-then-grants-clause-cost g c es are =
+returns-then-grants-clause-cost c es are =
     let i = c.loop-number.number-index in
     let light = entry_light c.args.texts.now es c.args.numbers.now i are c.requires c.loop-number-test.true c.in_ok-entry.entry
     (λ f is. c.in_ok-entry.ensures.answer f (rw c.text.ensures is)) in
@@ -36,7 +36,7 @@ returns-then-grants-clause-cost g c es are =
     )
 
 pub loop-number-preserved : goal.loop-number-preserved
-loop-number-preserved g c =
+loop-number-preserved c =
     let tuples = tuples_of c.args.steps.now in
     let i = c.loop-number.number-index in
     record {
@@ -69,7 +69,7 @@ loop-number-preserved g c =
     }
 
 pub returns-clause-answer : goal.returns-clause-answer
-returns-clause-answer g c es picked are picks =
+returns-clause-answer c es picked are picks =
     let low = c.loop-number-test.false in
     let high = c.loop-number.auto.number-index-end in
     let long = AllZip-long _ c.args.numbers.now picked picks in (
@@ -80,7 +80,7 @@ returns-clause-answer g c es picked are picks =
     )
 
 pub returns-in_err-entry-clause-cost : goal.returns-in_err-entry-clause-cost
-returns-in_err-entry-clause-cost g c es are =
+returns-in_err-entry-clause-cost c es are =
     let i = c.loop-number.number-index in
     let long = text_long c.args.texts.now es c.args.numbers.now i are c.requires c.loop-number-test.true in
     omega (
@@ -93,7 +93,7 @@ returns-in_err-entry-clause-cost g c es are =
     )
 
 pub returns-then-grants-clause-until : goal.returns-then-grants-clause-until
-returns-then-grants-clause-until g c es are index e numbered stands =
+returns-then-grants-clause-until c es are index e numbered stands =
     let tuples = tuples_of c.args.steps.now in
     let i = c.loop-number.number-index in
     let same = read_there c.args.texts.now es c.args.numbers.now i index e c.in_ok-entry.entry are c.requires c.loop-number-test.true

@@ -8,7 +8,7 @@ use Rattle.spki_service.specs.{AccessLists.{AreEntries, ArePicked}, Cost.{octets
 use Rattle.spki_service.proofs.granted_entry.first_granted.Given as goal
 
 abbrev pub invariant-loop-number : goal.invariant-loop-number
-invariant-loop-number g l = record {
+invariant-loop-number l = record {
   none : (es picked : List Entry) → AreEntries l.texts es → ArePicked es l.numbers picked
       → NoneBefore (with_entries (model l.case) picked) (tuples_of l.steps) l.number-index;
   each : l.fn.ticks + octets_at l.texts l.numbers ≤ l.ticks + octets_at l.texts (drop l.number-index l.numbers);

@@ -9,7 +9,7 @@ use Rattle.spki_tag.proofs.MeetSteps.{all_met, tags-members, members_meet, pairs
 use Rattle.spki_tag.proofs.intersection.+meet.Goals as goal
 
 pub meet_members-push_row-pushed-requires : goal.meet_members-push_row-pushed-requires
-meet_members-push_row-pushed-requires g t c =
+meet_members-push_row-pushed-requires t c =
     let others = tags c.args.others.now in
     let less : nodes c.one-item.result ≤ nodes_all (tags c.args.ones.now) =
     nodes_le-of_read c.args.ones.now c.loop-one.one-index c.one-item.result c.loop-one-test.true c.one-item.is in
@@ -21,7 +21,7 @@ meet_members-push_row-pushed-requires g t c =
     search (rules, bound, within, less)
 
 pub meet_members-loop-one-preserved : goal.meet_members-loop-one-preserved
-meet_members-loop-one-preserved g t c =
+meet_members-loop-one-preserved t c =
     let one = c.one-item.result in
     let others = c.args.others.now in
     let positions = c.in_ok-positions.positions.items in
@@ -40,10 +40,10 @@ meet_members-loop-one-preserved g t c =
     )
 
 pub meet_tags-meet_members-requires : goal.meet_tags-meet_members-requires
-meet_tags-meet_members-requires g t c = search (rules, tags-members, members_meet c.args.one.now c.args.other.now)
+meet_tags-meet_members-requires t c = search (rules, tags-members, members_meet c.args.one.now c.args.other.now)
 
 pub meet_each-returns-clause-value : goal.meet_each-returns-clause-value
-meet_each-returns-clause-value g t c =
+meet_each-returns-clause-value t c =
     let ones = c.args.ones.now in
     let others = c.args.others.now in
     let met = c.loop-i.met.items in
@@ -58,13 +58,13 @@ meet_each-returns-clause-value g t c =
     ∙ ap (λ (ts : List Tag). met ++ ts ++ drop n others) (take_all (length ones - n) (drop n ones) (omega (arith, length-drop n ones))))
 
 pub meet_each-meet_tags-requires : goal.meet_each-meet_tags-requires
-meet_each-meet_tags-requires g t c = grind (arith, meet_steps)
+meet_each-meet_tags-requires t c = grind (arith, meet_steps)
 
 pub meet_each-returns-then-is_nothing-clause-value : goal.meet_each-returns-then-is_nothing-clause-value
-meet_each-returns-then-is_nothing-clause-value g t c = search (rules, meet_steps)
+meet_each-returns-then-is_nothing-clause-value t c = search (rules, meet_steps)
 
 pub meet_each-loop-i-preserved : goal.meet_each-loop-i-preserved
-meet_each-loop-i-preserved g t c =
+meet_each-loop-i-preserved t c =
     let cost = each-step c.args.ones.now c.args.others.now c.loop-i.i c.index-ones-i.result c.index-others-i.result c.loop-i.ticks
     c.meet_tags.new.ticks _ (omega (arith, c.loop-i-test.true, c.min-common.ensures)) (omega (arith, c.loop-i-test.true, c.min-common.ensures))
     c.index-ones-i.is c.index-others-i.is c.meet_tags.ensures.cost c.loop-i.invariant.2 in (
@@ -75,16 +75,16 @@ meet_each-loop-i-preserved g t c =
     )
 
 pub meet_single-meet_lists-requires : goal.meet_single-meet_lists-requires
-meet_single-meet_lists-requires g t c = grind (arith, meet_steps)
+meet_single-meet_lists-requires t c = grind (arith, meet_steps)
 
 pub meet_tags-returns-then-has_set-clause-value : goal.meet_tags-returns-then-has_set-clause-value
-meet_tags-returns-then-has_set-clause-value g t c = search (rules, meet_steps)
+meet_tags-returns-then-has_set-clause-value t c = search (rules, meet_steps)
 
 pub push_row-meet_tags-requires : goal.push_row-meet_tags-requires
-push_row-meet_tags-requires g t c = grind (arith, meet_steps)
+push_row-meet_tags-requires t c = grind (arith, meet_steps)
 
 pub meet_each-returns-in_err-member-clause-cost : goal.meet_each-returns-in_err-member-clause-cost
-meet_each-returns-in_err-member-clause-cost g t c =
+meet_each-returns-in_err-member-clause-cost t c =
     omega (
       arith,
       each-step c.args.ones.now c.args.others.now c.loop-i.i c.index-ones-i.result c.index-others-i.result c.loop-i.ticks
@@ -93,7 +93,7 @@ meet_each-returns-in_err-member-clause-cost g t c =
     )
 
 pub meet_each-returns-then-is_nothing-clause-cost : goal.meet_each-returns-then-is_nothing-clause-cost
-meet_each-returns-then-is_nothing-clause-cost g t c =
+meet_each-returns-then-is_nothing-clause-cost t c =
     omega (
       arith,
       each-step c.args.ones.now c.args.others.now c.loop-i.i c.index-ones-i.result c.index-others-i.result c.loop-i.ticks
@@ -102,7 +102,7 @@ meet_each-returns-then-is_nothing-clause-cost g t c =
     )
 
 pub meet_each-returns-in_err-push-clause-cost : goal.meet_each-returns-in_err-push-clause-cost
-meet_each-returns-in_err-push-clause-cost g t c =
+meet_each-returns-in_err-push-clause-cost t c =
     omega (
       arith,
       each-step c.args.ones.now c.args.others.now c.loop-i.i c.index-ones-i.result c.index-others-i.result c.loop-i.ticks
@@ -111,28 +111,28 @@ meet_each-returns-in_err-push-clause-cost g t c =
     )
 
 pub meet_each-returns-in_err-push_copies-clause-cost : goal.meet_each-returns-in_err-push_copies-clause-cost
-meet_each-returns-in_err-push_copies-clause-cost g t c =
+meet_each-returns-in_err-push_copies-clause-cost t c =
     let ones = c.args.ones.now in
     let others = c.args.others.now in
     let n = c.min-common.result in
     omega (arith, rest-nodes ones n (length ones - n), rest-nodes others n (length others - n), c.loop-i.invariant.2, c.push_copies.ensures.cost)
 
 pub meet_each-returns-in_err-push_copies-2-clause-cost : goal.meet_each-returns-in_err-push_copies-2-clause-cost
-meet_each-returns-in_err-push_copies-2-clause-cost g t c =
+meet_each-returns-in_err-push_copies-2-clause-cost t c =
     let ones = c.args.ones.now in
     let others = c.args.others.now in
     let n = c.min-common.result in
     omega (arith, rest-nodes ones n (length ones - n), rest-nodes others n (length others - n), c.loop-i.invariant.2, c.push_copies.ensures.cost, c.push_copies-2.ensures.cost)
 
 pub meet_each-returns-clause-cost : goal.meet_each-returns-clause-cost
-meet_each-returns-clause-cost g t c =
+meet_each-returns-clause-cost t c =
     let ones = c.args.ones.now in
     let others = c.args.others.now in
     let n = c.min-common.result in
     omega (arith, rest-nodes ones n (length ones - n), rest-nodes others n (length others - n), c.loop-i.invariant.2, c.push_copies.ensures.cost, c.push_copies-2.ensures.cost)
 
 pub meet_members-returns-in_err-pushed-clause-cost : goal.meet_members-returns-in_err-pushed-clause-cost
-meet_members-returns-in_err-pushed-clause-cost g t c =
+meet_members-returns-in_err-pushed-clause-cost t c =
     let positions = c.in_ok-positions.positions.items in
     let found : positions ≡ positions_where (may_share c.one-item.result) 1 c.args.others.now =
     c.in_ok-positions.ensures ∙ ap (positions_where (may_share c.one-item.result) 1) c.in_ok-index.ensures in
@@ -143,7 +143,7 @@ meet_members-returns-in_err-pushed-clause-cost g t c =
     )
 
 pub meet_single-returns-in-List-node-2-clause-cost : goal.meet_single-returns-in-List-node-2-clause-cost
-meet_single-returns-in-List-node-2-clause-cost g t c =
+meet_single-returns-in-List-node-2-clause-cost t c =
     let ts = shared_items c.in-List.further in
     let us = shared_items c.in-List-node-2.others in
     let one : c.args.one.now ≡ list (arc_slice_items c.in-List.head) (tags ts) =
@@ -154,11 +154,11 @@ meet_single-returns-in-List-node-2-clause-cost g t c =
     (rw (c.tags_in.ensures, c.tags_in-in-List-node-2.ensures) at c.meet_lists.ensures.cost)
 
 pub meet_tags-returns-then-has_set-clause-cost : goal.meet_tags-returns-then-has_set-clause-cost
-meet_tags-returns-then-has_set-clause-cost g t c =
+meet_tags-returns-then-has_set-clause-cost t c =
     search (rules, members-met c.args.one.now c.args.other.now c.members.result.now c.members-then-has_set.result.now c.args.ticks.now c.tick.new.self c.meet_members.new.ticks)
 
 pub push_row-loop-position-preserved : goal.push_row-loop-position-preserved
-push_row-loop-position-preserved g t c = (
+push_row-loop-position-preserved t c = (
   grind (arith, common_steps),
   position-step c.args.one.now c.args.others.now c.args.positions.now c.loop-position.position-index c.index-others-position.result c.loop-position.ticks
       c.meet_tags.new.ticks _ c.loop-position-test.true c.requires.positions c.index-others-position.is c.meet_tags.ensures.cost c.loop-position.invariant.1,
@@ -166,7 +166,7 @@ push_row-loop-position-preserved g t c = (
 )
 
 pub push_row-returns-in_err-member-clause-cost : goal.push_row-returns-in_err-member-clause-cost
-push_row-returns-in_err-member-clause-cost g t c =
+push_row-returns-in_err-member-clause-cost t c =
     omega (
       arith,
       position-step c.args.one.now c.args.others.now c.args.positions.now c.loop-position.position-index c.index-others-position.result c.loop-position.ticks
@@ -174,7 +174,7 @@ push_row-returns-in_err-member-clause-cost g t c =
     )
 
 pub push_row-returns-in_err-push_kept-clause-cost : goal.push_row-returns-in_err-push_kept-clause-cost
-push_row-returns-in_err-push_kept-clause-cost g t c =
+push_row-returns-in_err-push_kept-clause-cost t c =
     omega (
       arith,
       position-step c.args.one.now c.args.others.now c.args.positions.now c.loop-position.position-index c.index-others-position.result c.loop-position.ticks
@@ -182,23 +182,23 @@ push_row-returns-in_err-push_kept-clause-cost g t c =
     )
 
 pub meet_tags-returns-then-is_everything-clause-cost : goal.meet_tags-returns-then-is_everything-clause-cost
-meet_tags-returns-then-is_everything-clause-cost g t c =
+meet_tags-returns-then-is_everything-clause-cost t c =
     omega (arith, c.tick.ensures, meet_cost-some c.args.one.now c.args.other.now)
 
 pub meet_members-gathered-requires : goal.meet_members-gathered-requires
-meet_members-gathered-requires g t c =
+meet_members-gathered-requires t c =
     let others = c.args.others.now in
     subst (λ ts. IsNormalTag (gather ts))
     (sym (all_met (λ ts. pairs (tags ts) (tags others)) c.args.ones.now c.loop-one.met.items _ c.loop-one.one-index refl (omega (arith, c.loop-one-test.false)) c.loop-one.invariant.0))
     c.requires.met
 
 pub meet_members-returns-clause-value : goal.meet_members-returns-clause-value
-meet_members-returns-clause-value g t c =
+meet_members-returns-clause-value t c =
     let others = c.args.others.now in
     let all = all_met (λ ts. pairs (tags ts) (tags others)) c.args.ones.now c.loop-one.met.items _ c.loop-one.one-index refl (omega (arith, c.loop-one-test.false)) c.loop-one.invariant.0 in
     IfOk-weaker c.gathered.result _ _ (λ r h. h ∙ ap gather all) c.gathered.ensures
 
 pub push_row-returns-clause-value : goal.push_row-returns-clause-value
-push_row-returns-clause-value g t c =
+push_row-returns-clause-value t c =
     all_met (λ ps. row (meet c.args.one.now) (tags (tags_at c.args.others.now ps))) c.args.positions.now c.loop-position.met.items _ c.loop-position.position-index refl
     (omega (arith, c.loop-position-test.false)) c.loop-position.invariant.0

@@ -6,7 +6,7 @@ use Rattle.spki_decision.proofs.chain_requirement.ChainRequirement.grants_counte
 use Rattle.spki_decision.proofs.chain_requirement.ChainRequirement.grants_counted.Goals as goal
 
 pub returns-in-None-clause-answer : goal.returns-in-None-clause-answer
-returns-in-None-clause-answer g c tuples is =
+returns-in-None-clause-answer c tuples is =
     let e = c.args.entry.now in
     let none : Supported (model c.args.case.now) tuples e → ⊥ =
     λ s. subst (λ (r : Option RequiredSubject). IsMetBy c.args.case.now.policy r (entry_tuple e)) c.in-None.is ((is e).0 s).0 in (
@@ -15,7 +15,7 @@ returns-in-None-clause-answer g c tuples is =
     )
 
 pub returns-else-holds_counted-clause-answer : goal.returns-else-holds_counted-clause-answer
-returns-else-holds_counted-clause-answer g c tuples is =
+returns-else-holds_counted-clause-answer c tuples is =
     let e = c.args.entry.now in
     let met : Supported (model c.args.case.now) tuples e → IsMetBy c.args.case.now.policy (Some c.in-Some.required) (entry_tuple e) =
     λ s. subst (λ (r : Option RequiredSubject). IsMetBy c.args.case.now.policy r (entry_tuple e)) c.in-Some.is ((is e).0 s).0 in

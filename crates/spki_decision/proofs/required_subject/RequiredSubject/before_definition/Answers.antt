@@ -5,7 +5,7 @@ use Rattle.spki_decision.proofs.ChainRequirements.{defined_before}
 use Rattle.spki_decision.proofs.required_subject.RequiredSubject.before_definition.Goals as goal
 
 pub returns-clause-answer : goal.returns-clause-answer
-returns-clause-answer g c =
+returns-clause-answer c =
     let definition = four_tuple c.args.definition.now in
     let named : names c.args.policy definition.principal c.args.self.key ≡ true = sym c.is_name_of.ensures.answer ∙ c.if-not-is_name_of.false in
     let begun : c.args.self.names ≡ definition.names ++ c.in-Some.rest = rw c.in-Some.is at c.names_after.ensures.some in

@@ -1,5 +1,5 @@
 use Rattle.std.proofs.Common.{◌<◌, ◌≤◌, subst, sym, arith, ap, ◌∙◌, length}
-use Rattle.spki_service.specs.{declared.texts.Texts.{Texts}, AccessLists.{GuardModel}, GuardQuestions.{IsConditionalGrant, IsTextsOf}}
+use Rattle.spki_service.specs.{declared.texts.Texts.{Texts}, AccessLists.{GuardModel}, GuardQuestions.{IsConditionalGrant, IsReadFrom, IsTextsOf}}
 use Rattle.spki_service.specs.Questions.{asked_octets}
 use Rattle.spki_service.proofs.owned_question.OwnedQuestion.open.Goals as goal
 
@@ -19,3 +19,28 @@ returns-clause-opened c =
           (subst (λ (h : GuardModel). IsConditionalGrant h c.in_ok-texts.texts kept.signed.items kept.if_valid) c.guard-2.ensures c.in_ok-signed.ensures.kept));
       counted = c.in_ok-marks.ensures.counted ∙ ap length c.as_slice.ensures.value;
     }
+
+pub returns-in_err-signed-clause-cost : goal.returns-in_err-signed-clause-cost
+returns-in_err-signed-clause-cost c shown found asks =
+    c.conditional_grant.ensures.cost shown found (λ a read.
+    asks c.in_ok-texts.texts a c.in_ok-texts.ensures.texts (subst (λ (h : GuardModel). IsReadFrom h c.in_ok-texts.texts a) c.guard-2.ensures read))
+
+pub returns-in_err-marks-clause-cost : goal.returns-in_err-marks-clause-cost
+returns-in_err-marks-clause-cost c shown found asks =
+    c.conditional_grant.ensures.cost shown found (λ a read.
+    asks c.in_ok-texts.texts a c.in_ok-texts.ensures.texts (subst (λ (h : GuardModel). IsReadFrom h c.in_ok-texts.texts a) c.guard-2.ensures read))
+
+pub returns-in_err-texts-2-clause-cost : goal.returns-in_err-texts-2-clause-cost
+returns-in_err-texts-2-clause-cost c shown found asks =
+    c.conditional_grant.ensures.cost shown found (λ a read.
+    asks c.in_ok-texts.texts a c.in_ok-texts.ensures.texts (subst (λ (h : GuardModel). IsReadFrom h c.in_ok-texts.texts a) c.guard-2.ensures read))
+
+pub returns-in_err-guard-clause-cost : goal.returns-in_err-guard-clause-cost
+returns-in_err-guard-clause-cost c shown found asks =
+    c.conditional_grant.ensures.cost shown found (λ a read.
+    asks c.in_ok-texts.texts a c.in_ok-texts.ensures.texts (subst (λ (h : GuardModel). IsReadFrom h c.in_ok-texts.texts a) c.guard-2.ensures read))
+
+pub returns-clause-cost : goal.returns-clause-cost
+returns-clause-cost c shown found asks =
+    c.conditional_grant.ensures.cost shown found (λ a read.
+    asks c.in_ok-texts.texts a c.in_ok-texts.ensures.texts (subst (λ (h : GuardModel). IsReadFrom h c.in_ok-texts.texts a) c.guard-2.ensures read))

@@ -10,7 +10,7 @@ use Rattle.spki_service.proofs.SelectedEntries.{as_many, picks, partly_by, numbe
 use Rattle.spki_service.proofs.prepared_question.PreparedQuestion.granted_after.Goals as goal
 
 pub first_granted-requires : goal.first_granted-requires
-first_granted-requires g c =
+first_granted-requires c =
     let m = model c.self.inside.case in
     let tuples = tuples_of c.args.steps.now in
     let es = c.guard.invariant.0 in
@@ -23,7 +23,7 @@ first_granted-requires g c =
     numbers_are m es tuples (length texts) c.in_ok-numbers.numbers.items c.deref.result.now (sym (as_many texts es held)) c.deref.ensures.value numbers
 
 pub returns-clause-answer : goal.returns-clause-answer
-returns-clause-answer g c =
+returns-clause-answer c =
     let m = model c.self.inside.case in
     let tuples = tuples_of c.args.steps.now in
     let texts = ap (λ h. h.texts) c.guard.view_is in
@@ -42,12 +42,12 @@ returns-clause-answer g c =
     subst (λ (a : PreparedModel). (es : List Entry) → AreEntries a.texts es → IfOk c.first_granted.result (λ g. DecidesPartly (with_entries a.case es) tuples (decision_of g))) c.self.view_is inner
 
 pub returns-clause-until : goal.returns-clause-until
-returns-clause-until g c es are =
+returns-clause-until c es are =
     let texts = ap (λ h. h.texts) c.guard.view_is ∙ ap (λ (x : PreparedModel). x.texts) c.self.view_is in
     c.first_granted.ensures.until es (subst (λ (ts : List (List ℕ)). AreEntries ts es) (sym texts) are)
 
 pub returns-clause-cost : goal.returns-clause-cost
-returns-clause-cost g c shown found has shows =
+returns-clause-cost c shown found has shows =
     let a = c.args.self.now in
     let m = model c.self.inside.case in
     let tuples = tuples_of c.args.steps.now in
@@ -67,10 +67,10 @@ returns-clause-cost g c shown found has shows =
     omega (arith, c.first_granted.ensures.cost es held, many, found_cost a shown found has tuples es shows are)
 
 pub returns-in_err-numbers-clause-cost : goal.returns-in_err-numbers-clause-cost
-returns-in_err-numbers-clause-cost g c shown found has shows = omega (arith, asked_octets c.args.self.now shown found has)
+returns-in_err-numbers-clause-cost c shown found has shows = omega (arith, asked_octets c.args.self.now shown found has)
 
 pub returns-clause-each : goal.returns-clause-each
-returns-clause-each g c es are =
+returns-clause-each c es are =
     let a = c.args.self.now in
     let m = model c.self.inside.case in
     let tuples = tuples_of c.args.steps.now in

@@ -4,7 +4,7 @@ use Rattle.spki_case.specs.View.{model}
 use Rattle.spki_decision.{specs.{CertificateTests.{with_entries}, Requirements.{work_left}}, proofs.EntryChains.{one_put, none_folded}}
 use Rattle.spki_service.proofs.AnswerLaws.{one_more, too_large, all_texts}
 use Rattle.spki_service.proofs.Costs.{none_counted, none_read, ticks_within, read_within, one_joined, one_read, all_read}
-use Rattle.spki_service.proofs.fold_cost.fold_texts_counted.Goals as goal
+use Rattle.spki_service.proofs.fold_cost.fold_texts.Goals as goal
 
 pub loop-index-init : goal.loop-index-init
 loop-index-init g c = (
